@@ -1,0 +1,38 @@
+-- Laws of a list written over from a place on.
+use Prim.Native.Nat.{ℕ, _+_, _≤_, _<_}
+use mathlib.Core.Path.{_≡_, sym, _∙_}
+use mathlib.Core.List.{List, [], _∷_, _++_, append-assoc}
+use native.Mathlib.Nat.{add-assoc, add-zero}
+use native.Mathlib.Numerals.{add-one}
+use native.Mathlib.Omega.{arith}
+use lib.ListN.{length, take, drop, set, length-take, length-drop, length-append, take-append-drop}
+use lib.Seq.{take-at, drop-at, drop-drop, set-split}
+use Rattle.bits.specs.Overwrite.{over}
+
+pub over-long : {A : Type 0} (l : List A) (k : ℕ) (a : List A) → k + length a ≤ length l → length (over l k a) ≡ length l
+unfolding over
+over-long l k a h = simp (length-append, length-take, length-drop) (omega arith)
+
+-- two in a row are one
+pub over-over : {A : Type 0} (l : List A) (k : ℕ) (a b : List A) → k ≤ length l → over (over l k a) (k + length a) b ≡ over l k (a ++ b)
+unfolding over
+over-over l k a b h =
+    let d = drop (k + length a) l in
+    let p : length (take k l ++ a) ≡ k + length a = simp (length-append, length-take) (omega arith) in
+    let e : take k l ++ (a ++ d) ≡ (take k l ++ a) ++ d = sym (append-assoc (take k l) a d) in
+    let t : take (k + length a) (take k l ++ (a ++ d)) ≡ take k l ++ a = rw e (take-at (take k l ++ a) d (k + length a) p) in
+    let u : drop (k + length a + length b) (take k l ++ (a ++ d)) ≡ drop (k + (length a + length b)) l =
+    rw (e, ← drop-drop (length b) (k + length a), drop-at (take k l ++ a) d (k + length a) p, drop-drop, add-assoc) in
+    rw (t, u) (simp (append-assoc, length-append))
+
+-- the same for lists that go by names: the second begins where the first ended
+pub over-then : {A : Type 0} (l m n : List A) (k j : ℕ) (a b : List A) → k ≤ length l → m ≡ over l k a → k + length a ≡ j → n ≡ over m j b → n ≡ over l k (a ++ b)
+over-then l m n k j a b h p q r = r ∙ rw (p, ← q) (over-over l k a b h)
+
+pub over-set : {A : Type 0} (l : List A) (k : ℕ) (v : A) → k < length l → set l k v ≡ over l k (v ∷ [])
+unfolding over
+over-set l k v h = rw (add-one k) (set-split l k v h)
+
+pub over-none : {A : Type 0} (l : List A) (k : ℕ) → over l k [] ≡ l
+unfolding over
+over-none l k = rw add-zero (take-append-drop k l)

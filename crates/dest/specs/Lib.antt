@@ -1,0 +1,5 @@
+pub mod Rows
+pub mod Flags
+pub mod Maps
+pub mod Cover
+pub mod Examples

@@ -1,0 +1,180 @@
+// The checks of a machine, in proved code: refusals 4 and 10 of every entry that is lent one.
+ghost use mathlib.Core.Path.{_≡_};
+ghost use lib.ListN.{length};
+ghost use Rattle.bits.specs.Ranges.{allAtMost};
+ghost use Rattle.machine.specs.Sizes.{cellMost};
+ghost use Rattle.machine.specs.Machine.{machine, stores};
+ghost use Rattle.machine.specs.Formed.{waitFormed, semaphoresFormed, mutexesFormed, banksFormed, waitsFormed, controlFormed, sized, storesSized, storesFormed, formed};
+use machine::control::Control;
+use machine::control::Semaphore;
+use machine::control::Wait;
+use machine::sizes::CELL_MOST;
+use machine::sizes::CONFIG_WORDS;
+use machine::sizes::DEST_CELLS;
+use machine::sizes::DEST_ROWS;
+use machine::sizes::GPRS;
+use machine::sizes::SEMAPHORES;
+use machine::sizes::SETTINGS;
+use machine::sizes::SOURCE_CELLS;
+
+// Whether a wait's masks are within the fields of the word that sets it.
+fn wait_formed(w: Wait) -> bool
+    ensures { λ r. ⌜ r ≡ waitFormed w ⌝ }
+{
+    match w {
+        Wait::Clear => true,
+        Wait::OnStall { block, conditions } => bits::both(block <= 511, conditions <= 32767),
+        Wait::OnSemaphore {
+            block,
+            mask,
+            condition,
+        } => bits::both(block <= 511, bits::both(mask <= 255, condition <= 3)),
+    }
+}
+
+fn semaphores_formed(all: [Semaphore; SEMAPHORES]) -> bool
+    ensures { λ r. ⌜ (r ≡ semaphoresFormed all) × (length all ≡ 8) ⌝ }
+{
+    let mut i: usize = 0;
+    while i < SEMAPHORES {
+        let s = all[i];
+        if s.value > 15 {
+            return false;
+        }
+        if s.maximum > 15 {
+            return false;
+        }
+        i += 1;
+    }
+    true
+}
+
+fn mutexes_formed(c: Control) -> bool
+    ensures { λ r. ⌜ r ≡ mutexesFormed c ⌝ }
+{
+    let mutexes = c.mutexes;
+    bits::bytes_at_most(&mutexes, 3)
+}
+
+fn banks_formed(c: Control) -> bool
+    ensures { λ r. ⌜ r ≡ banksFormed c ⌝ }
+{
+    let owners = c.owners;
+    let pointers = c.pointers;
+    let o = bits::bytes_at_most(&owners, 1);
+    let p = bits::bytes_at_most(&pointers, 1);
+    bits::both(o, p)
+}
+
+fn waits_formed(c: Control) -> bool
+    ensures { λ r. ⌜ r ≡ waitsFormed c ⌝ }
+{
+    let t0 = c.t0;
+    let t1 = c.t1;
+    let t2 = c.t2;
+    let w0 = t0.wait;
+    let w1 = t1.wait;
+    let w2 = t2.wait;
+    bits::both(
+        wait_formed(w0),
+        bits::both(wait_formed(w1), wait_formed(w2)),
+    )
+}
+
+// Whether each number of the control part is in its range.
+pub fn control_formed(c: Control) -> bool
+    ensures { λ r. ⌜ r ≡ controlFormed c ⌝ }
+{
+    let semaphores = c.semaphores;
+    let m = mutexes_formed(c);
+    let s = semaphores_formed(semaphores);
+    let b = banks_formed(c);
+    let w = waits_formed(c);
+    bits::both(m, bits::both(s, bits::both(b, w)))
+}
+
+// Whether each cell of a source file has 19 bits.
+pub fn cells_formed(cells: &[u32]) -> bool
+    ensures { λ r. ⌜ r ≡ allAtMost cellMost (now (cells .entry)) ⌝ }
+{
+    bits::words_at_most(cells, CELL_MOST)
+}
+
+// Whether each store has its size.
+fn stores_sized(
+    gprs: &[u32],
+    config: &[u32],
+    dest: &[u16],
+    marks: &[bool],
+    src_a: &[u32],
+    src_b: &[u32],
+) -> bool
+    ensures { λ r. ⌜ r ≡ storesSized (stores (now (gprs .entry)) (now (config .entry)) (now (dest .entry)) (now (marks .entry)) (now («src_a» .entry)) (now («src_b» .entry))) ⌝ }
+{
+    let g = gprs.len() == GPRS;
+    let f = config.len() == CONFIG_WORDS;
+    let d = dest.len() == DEST_CELLS;
+    let v = marks.len() == DEST_ROWS;
+    let a = src_a.len() == SOURCE_CELLS;
+    let b = src_b.len() == SOURCE_CELLS;
+    bits::both(
+        g,
+        bits::both(f, bits::both(d, bits::both(v, bits::both(a, b)))),
+    )
+}
+
+// Whether each number of a store is in its range. The types see to all but the source cells.
+fn stores_formed(
+    gprs: &[u32],
+    config: &[u32],
+    dest: &[u16],
+    marks: &[bool],
+    src_a: &[u32],
+    src_b: &[u32],
+) -> bool
+    ensures { λ r. ⌜ r ≡ storesFormed (stores (now (gprs .entry)) (now (config .entry)) (now (dest .entry)) (now (marks .entry)) (now («src_a» .entry)) (now («src_b» .entry))) ⌝ }
+{
+    let g = bits::words_fit(gprs);
+    let f = bits::words_fit(config);
+    let d = bits::halves_fit(dest);
+    let a = cells_formed(src_a);
+    let b = cells_formed(src_b);
+    bits::both(bits::both(g, f), bits::both(d, bits::both(a, b)))
+}
+
+// Whether each lent part of a machine has its size.
+pub fn machine_sized(
+    control: Control,
+    settings: &[u16],
+    gprs: &[u32],
+    config: &[u32],
+    dest: &[u16],
+    marks: &[bool],
+    src_a: &[u32],
+    src_b: &[u32],
+) -> bool
+    ensures { λ r. ⌜ r ≡ sized (machine control (now (settings .entry)) (stores (now (gprs .entry)) (now (config .entry)) (now (dest .entry)) (now (marks .entry)) (now («src_a» .entry)) (now («src_b» .entry)))) ⌝ }
+{
+    let s = settings.len() == SETTINGS;
+    let k = stores_sized(gprs, config, dest, marks, src_a, src_b);
+    bits::both(s, k)
+}
+
+// Whether each number of a machine is in its range.
+pub fn machine_formed(
+    control: Control,
+    settings: &[u16],
+    gprs: &[u32],
+    config: &[u32],
+    dest: &[u16],
+    marks: &[bool],
+    src_a: &[u32],
+    src_b: &[u32],
+) -> bool
+    ensures { λ r. ⌜ r ≡ formed (machine control (now (settings .entry)) (stores (now (gprs .entry)) (now (config .entry)) (now (dest .entry)) (now (marks .entry)) (now («src_a» .entry)) (now («src_b» .entry)))) ⌝ }
+{
+    let c = control_formed(control);
+    let s = bits::halves_fit(settings);
+    let k = stores_formed(gprs, config, dest, marks, src_a, src_b);
+    bits::both(c, bits::both(s, k))
+}

@@ -1,0 +1,3 @@
+pub mod Semaphores
+pub mod ControlFacts
+pub mod FreshLaws

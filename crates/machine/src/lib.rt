@@ -1,0 +1,6 @@
+// What a machine is: its parts and their sizes, the numbers that come back, well-formedness, a fresh machine.
+pub mod control;
+pub mod fresh;
+pub mod refusal;
+pub mod sizes;
+pub mod units;

@@ -1,0 +1,125 @@
+"""The programs: `emulate` (document 01, "Program and cases") and `replay`, which also takes and gives an image.
+
+    python3 oracle/program.py emulate < FILE
+    python3 oracle/program.py replay < FILE
+"""
+
+import sys
+
+from image import SIZE, image_of, read_image
+from machine import fresh
+from run import BUDGET_LIMIT, START, STREAM_LIMIT, Cursor, run
+
+EMULATE_WORDS = 1024  # words of a stream, at most
+STREAM_KINDS = (32, 33, 34)
+BUDGET_KIND = 35
+CURSOR_KIND = 36
+
+
+class BadRecord(Exception):
+    """Its argument is the offset at which the first bad or missing record starts, or extra bytes do."""
+
+
+class Records:
+    """The records of an input, one after the other: body length (4 bytes), kind (2), body."""
+
+    def __init__(self, data, at=0):
+        self.data = data
+        self.at = at
+        self.start = at  # of the last record taken
+
+    def bad(self):
+        """The last record taken is bad."""
+        return BadRecord(self.start)
+
+    def body(self, kind):
+        """The body of the next record, which has this kind."""
+        self.start = self.at
+        header = self.data[self.at:self.at + 6]
+        if len(header) < 6 or int.from_bytes(header[4:], 'little') != kind:
+            raise self.bad()
+        length = int.from_bytes(header[:4], 'little')
+        body = self.data[self.at + 6:self.at + 6 + length]
+        if len(body) < length:
+            raise self.bad()
+        self.at += 6 + length
+        return body
+
+    def numbers(self, kind, most):
+        """The next record's body as at most so many numbers of 4 bytes."""
+        body = self.body(kind)
+        if len(body) & 3 or len(body) >> 2 > most:
+            raise self.bad()
+        return [int.from_bytes(body[at:at + 4], 'little') for at in range(0, len(body), 4)]
+
+    def exactly(self, kind, count):
+        """The next record's body as exactly so many numbers of 4 bytes."""
+        found = self.numbers(kind, count)
+        if len(found) != count:
+            raise self.bad()
+        return found
+
+    def end(self):
+        """Nothing comes after."""
+        if self.at != len(self.data):
+            raise BadRecord(self.at)
+
+
+def lines(*texts):
+    return ''.join(text + '\n' for text in texts).encode('ascii')
+
+
+def summary(result, streams):
+    """The five lines of a run."""
+    return lines(
+        ' '.join(['end'] + [str(part) for part in result.answer]),
+        f'turns {result.turns}',
+        *(f't{thread} {result.cursor.positions[thread]}/{len(streams[thread])}' for thread in range(3)))
+
+
+def emulate(data):
+    """Standard output of document 01's program for a standard input."""
+    records = Records(data)
+    try:
+        streams = [records.numbers(kind, EMULATE_WORDS) for kind in STREAM_KINDS]
+        budget, = records.exactly(BUDGET_KIND, 1)
+        if budget > BUDGET_LIMIT:
+            raise records.bad()
+        records.end()
+    except BadRecord as bad:
+        return lines(f'bad record at {bad.args[0]}')
+    return summary(run(fresh(), streams, START, budget), streams)
+
+
+def replay(data):
+    """Standard output of the whole-state program: an image, streams, budget and cursor in; lines and an image out."""
+    image = data[:SIZE]
+    answer = read_image(image)
+    if answer[0] == 'refused':
+        return lines(f'bad image at {answer[2]}')
+    machine = answer[1]
+    records = Records(data, SIZE)
+    try:
+        streams = [records.numbers(kind, STREAM_LIMIT) for kind in STREAM_KINDS]
+        budget, = records.exactly(BUDGET_KIND, 1)
+        *positions, following = records.exactly(CURSOR_KIND, 4)
+        records.end()
+    except BadRecord as bad:
+        return lines(f'bad record at {bad.args[0]}')
+    result = run(machine, streams, Cursor(tuple(positions), following), budget)
+    if result.answer[0] == 'rejected':
+        return lines(f'rejected {result.answer[1]}') + image
+    return summary(result, streams) + lines(f'next {result.cursor.next}') + image_of(machine)
+
+
+PROGRAMS = {'emulate': emulate, 'replay': replay}
+
+
+def main(arguments):
+    if len(arguments) != 1 or arguments[0] not in PROGRAMS:
+        sys.exit('usage: program.py emulate|replay < FILE')
+    sys.stdout.buffer.write(PROGRAMS[arguments[0]](sys.stdin.buffer.read()))
+
+
+if __name__ == '__main__':
+    main(sys.argv[1:])

@@ -1,0 +1,161 @@
+"""The programs: printed lines, bad records and their offsets, and `replay`."""
+
+import subprocess
+import sys
+import unittest
+from pathlib import Path
+
+import assemble as asm
+from image import SIZE, image_of
+from machine import fresh
+from program import emulate, replay
+from run import Cursor, run
+from testing import busy, still
+
+NOP, STALL, BAD = asm.nop(), asm.trnspsrcb(), 0xFF000000
+PLAIN = asm.emulate_input([[NOP], [NOP], [NOP]], 100)  # records at 0, 10, 20 and 30; 40 bytes
+
+
+class Emulate(unittest.TestCase):
+    def prints(self, streams, budget, *lines):
+        self.assertEqual(emulate(asm.emulate_input(streams, budget)), ''.join(f'{line}\n' for line in lines).encode())
+
+    def test_lines(self):
+        self.prints([[NOP] * 2, [NOP], []], 9, 'end finished', 'turns 4', 't0 2/2', 't1 1/1', 't2 0/0')
+        self.prints([[NOP] * 2, [NOP], []], 2, 'end budget', 'turns 2', 't0 1/2', 't1 1/1', 't2 0/0')
+        self.prints([[STALL], [NOP], [NOP]], 9, 'end stuck', 'turns 6', 't0 0/1', 't1 1/1', 't2 1/1')
+        self.prints([[NOP], [NOP], [BAD]], 9, 'end refused 2', 'turns 3', 't0 1/1', 't1 1/1', 't2 0/1')
+        self.prints([[asm.atgetm(8)], [], []], 9, 'end refused 3', 'turns 1', 't0 0/1', 't1 0/0', 't2 0/0')
+        self.prints([[], [], []], 0, 'end finished', 'turns 0', 't0 0/0', 't1 0/0', 't2 0/0')
+        self.prints([[NOP] * 1024, [NOP] * 1024, [NOP] * 1024], 1000000,
+                    'end finished', 'turns 3072', 't0 1024/1024', 't1 1024/1024', 't2 1024/1024')
+
+    def test_runs_a_fresh_machine(self):
+        # SrcB's bank is Unpackers', the mutex free, semaphores zero.
+        self.prints([[asm.stallwait(511, 1 << 5 | 1 << 6), asm.dmanop()], [asm.atgetm(0)], []], 9,
+                    'end finished', 'turns 4', 't0 2/2', 't1 1/1', 't2 0/0')
+
+    def bad(self, data, offset):
+        self.assertEqual(emulate(data), f'bad record at {offset}\n'.encode())
+
+    def test_cut_anywhere(self):
+        for length in range(40):
+            self.bad(PLAIN[:length], length // 10 * 10)
+
+    def test_extra_bytes(self):
+        self.bad(PLAIN + b'\0', 40)
+        self.bad(PLAIN + PLAIN, 40)
+
+    def test_kinds_and_order(self):
+        records = [PLAIN[at:at + 10] for at in range(0, 40, 10)]
+        self.bad(b''.join(records[place] for place in (1, 0, 2, 3)), 0)
+        self.bad(b''.join(records[place] for place in (0, 2, 1, 3)), 10)
+        self.bad(b''.join(records[place] for place in (0, 1, 3, 2)), 20)
+        self.bad(b''.join(records[place] for place in (0, 0, 1, 2, 3)), 10)
+        self.bad(b''.join(records[place] for place in (0, 1, 2, 3, 3)), 40)
+        for place in range(4):
+            for at in (4, 5):
+                data = bytearray(PLAIN)
+                data[10 * place + at] ^= 128
+                self.bad(bytes(data), 10 * place)
+
+    def test_lengths(self):
+        for length in (1, 2, 3, 5, 4095, 4097, 4100):
+            self.bad(asm.record(32, bytes(length)) + PLAIN[10:], 0)
+            self.bad(PLAIN[:10] + asm.record(33, bytes(length)) + PLAIN[20:], 10)
+            self.bad(PLAIN[:20] + asm.record(34, bytes(length)) + PLAIN[30:], 20)
+        self.bad(asm.number_record(32, *[NOP] * 1025) + PLAIN[10:], 0)
+        self.assertTrue(emulate(asm.number_record(32, *[NOP] * 1024) + PLAIN[10:]).startswith(b'end budget'))
+        for length in (0, 1, 3, 5, 8):
+            self.bad(PLAIN[:30] + asm.record(35, bytes(length)), 30)
+
+    def test_budget_limit(self):
+        streams = [[NOP], [], []]
+        self.assertTrue(emulate(asm.emulate_input(streams, 1000000)).startswith(b'end finished'))
+        self.bad(asm.emulate_input(streams, 1000001), 22)
+        self.bad(asm.emulate_input(streams, 0xFFFFFFFF), 22)
+
+    def test_the_first_bad_record_is_reported(self):
+        self.bad(asm.emulate_input([[NOP], [NOP] * 1025, []], 1000001) + b'\0', 10)
+
+    def test_a_length_past_the_end(self):
+        self.bad(b'\xFF\xFF\xFF\xFF' + PLAIN[4:], 0)
+        self.bad(PLAIN[:30] + b'\xFF\xFF\xFF\xFF' + PLAIN[34:], 30)
+
+
+class Replay(unittest.TestCase):
+    def test_same_as_a_run(self):
+        streams = [[asm.setdmareg(3, 0xC000), asm.atgetm(2)], [asm.sempost(255), asm.wrcfg(3, 200, 1)], [BAD, NOP]]
+        for cursor, budget in ((Cursor((0, 0, 1), 0), 50), (Cursor((1, 0, 2), 1), 2), (Cursor((0, 0, 0), 2), 9),
+                               (Cursor((2, 2, 2), 1), 9), (Cursor((0, 0, 2), 2), 0)):
+            machine = busy(80)
+            data = asm.replay_input(image_of(machine), streams, budget, cursor.positions, cursor.next)
+            result = run(machine, streams, cursor, budget)
+            lines = ['end ' + ' '.join(str(part) for part in result.answer), f'turns {result.turns}']
+            lines += [f't{thread} {result.cursor.positions[thread]}/2' for thread in range(3)]
+            lines += [f'next {result.cursor.next}']
+            self.assertEqual(replay(data), '\n'.join(lines).encode() + b'\n' + image_of(machine))
+
+    def test_hand_worked(self):
+        machine, after = fresh(), fresh()
+        after.gprs[1][4] = 0x1234
+        data = asm.replay_input(image_of(machine), [[], [NOP, 0x45123408], []], 7, (0, 1, 0), 1)
+        self.assertEqual(replay(data), b'end finished\nturns 1\nt0 0/0\nt1 2/2\nt2 0/0\nnext 2\n' + image_of(after))
+
+    def test_rejected_calls(self):
+        image = image_of(still(81))
+        streams = [[NOP], [], []]
+        for positions, following, budget, number in (
+                ((2, 0, 0), 0, 1, 5), ((0, 1, 0), 0, 1, 5), ((0, 0, 0), 3, 1, 5), ((0, 0, 0), 0, 1000001, 6),
+                ((0, 0, 0), 0, 0xFFFFFFFF, 6), ((0, 0, 0xFFFFFFFF), 0xFFFFFFFF, 1000001, 5)):
+            self.assertEqual(replay(asm.replay_input(image, streams, budget, positions, following)),
+                             f'rejected {number}\n'.encode() + image)
+
+    def test_bad_images(self):
+        image = bytearray(image_of(still(81)))
+        self.assertEqual(replay(b''), b'bad image at 0\n')
+        self.assertEqual(replay(bytes(image[:SIZE - 1])), b'bad image at 48470\n')
+        image[390] = 4
+        self.assertEqual(replay(bytes(image)), b'bad image at 390\n')
+        self.assertEqual(replay(asm.replay_input(bytes(image), [[], [], []], 1000001)), b'bad image at 390\n')
+
+    def test_bad_records(self):
+        image = image_of(fresh())
+        data = asm.replay_input(image, [[NOP], [NOP], [NOP]], 100)
+        self.assertEqual(len(data), SIZE + 62)
+        for length in (0, 1, 3, 5, 6, 9, 10, 15, 19, 20, 29, 30, 36, 39, 40, 41, 45, 46, 50, 61):
+            start = SIZE + min(length // 10, 4) * 10
+            self.assertEqual(replay(data[:SIZE + length]), f'bad record at {start}\n'.encode())
+        self.assertEqual(replay(data + b'\0'), f'bad record at {SIZE + 62}\n'.encode())
+        for length in (0, 4, 12, 15, 17, 20):
+            changed = data[:SIZE + 40] + asm.record(36, bytes(length))
+            self.assertEqual(replay(changed), f'bad record at {SIZE + 40}\n'.encode())
+
+    def test_streams_to_65536_words(self):
+        image = image_of(fresh())
+        full = asm.number_record(32, *[NOP] * 65536)
+        rest = asm.emulate_input([[], [], []], 1)[6:] + asm.number_record(36, 65535, 0, 0, 0)
+        self.assertTrue(replay(image + full + rest).startswith(b'end finished\nturns 1\nt0 65536/65536\n'))
+        over = asm.number_record(32, *[NOP] * 65537)
+        self.assertEqual(replay(image + over + rest), f'bad record at {SIZE}\n'.encode())
+
+
+class CommandLine(unittest.TestCase):
+    def ran(self, *arguments, data=b''):
+        script = Path(__file__).resolve().parent / 'program.py'
+        return subprocess.run([sys.executable, str(script), *arguments], input=data, capture_output=True)
+
+    def test_both_programs(self):
+        result = self.ran('emulate', data=PLAIN)
+        self.assertEqual((result.returncode, result.stdout), (0, emulate(PLAIN)))
+        data = asm.replay_input(image_of(busy(80)), [[NOP], [], []], 5)
+        result = self.ran('replay', data=data)
+        self.assertEqual((result.returncode, result.stdout), (0, replay(data)))
+
+    def test_other_arguments(self):
+        for arguments in ((), ('other',), ('emulate', 'more')):
+            self.assertNotEqual(self.ran(*arguments).returncode, 0)
+
+
+if __name__ == '__main__':
+    unittest.main()
