@@ -7,7 +7,7 @@ use native.Mathlib.Numerals.{add-one}
 use native.Mathlib.Omega.{arith}
 use lib.ListN.{length, take, drop, set, length-take, length-drop, length-append, take-append-drop}
 use lib.Seq.{take-at, drop-at, drop-drop, set-split}
-use Rattle.bits.specs.Overwrite.{over}
+use Rattle.bits.specs.Overwrite.{over, Wrote}
 
 pub over-long : {A : Type 0} (l : List A) (k : ℕ) (a : List A) → k + length a ≤ length l → length (over l k a) ≡ length l
 unfolding over
@@ -36,3 +36,11 @@ over-set l k v h = rw (add-one k) (set-split l k v h)
 pub over-none : {A : Type 0} (l : List A) (k : ℕ) → over l k [] ≡ l
 unfolding over
 over-none l k = rw add-zero (take-append-drop k l)
+
+-- two writes in a row are one
+pub wrote-then : {A : Type 0} {l m n : List A} {k j i : ℕ} {a b : List A} → Wrote l k a m j → Wrote m j b n i → k ≤ length l → Wrote l k (a ++ b) n i
+wrote-then {A} {l} {m} {n} {k} {j} {i} {a} {b} p q h =
+    record {
+      placed = q .placed ∙ rw (p .placed, length-append a b) (add-assoc k (length a) (length b));
+      list = over-then l m n k j a b h (p .list) (sym (p .placed)) (q .list);
+    }

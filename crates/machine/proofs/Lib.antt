@@ -1,3 +1,4 @@
 pub mod Semaphores
 pub mod ControlFacts
+pub mod SizedFacts
 pub mod FreshLaws

@@ -9,8 +9,8 @@ use Rattle.machine.specs.declared.units.HalfRegister.{HalfRegister}
 abbrev pub gpr : ℕ → GprNumber
 gpr n = record { 0 = n }
 
-abbrev pub half : ℕ → HalfRegister
-half n = record { 0 = n }
+abbrev pub halfRegister : ℕ → HalfRegister
+halfRegister n = record { 0 = n }
 
 -- even is a low half, odd a high half
 abbrev pub gprOfHalf : HalfRegister → GprNumber

@@ -1,0 +1,24 @@
+use Prim.Native.Nat.{_+_}
+use Rattle.machine.proofs.ControlFacts.{pointer-at}
+use native.Mathlib.Omega.{arith}
+use borrow.Author.Needs.{needs}
+use Rattle.control.proofs.waits.unpackers_own.Statement.{statement}
+use Rattle.control.proofs.waits.unpackers_own.Tie as tie
+
+add-result : tie.Need-add-result
+add-result c = omega (arith, pointer-at (c .before .args .t1) (2 + c .before .args .file) (c .before .pre .0))
+
+element-copy-out-result : tie.Need-element-copy-out-result
+element-copy-out-result c = omega (arith, pointer-at (c .before .args .t1) (2 + c .before .args .file) (c .before .pre .0))
+
+pub unpackers-own-spec : {M : Type 1} → statement M
+unpackers-own-spec =
+    tie.close
+    (tie.spec
+    (λ c. search needs)
+    (λ c. search needs)
+    (λ c. search needs)
+    (λ c. search needs)
+    add-result
+    element-copy-out-result
+    (λ c. search needs))

@@ -1,0 +1,85 @@
+// What SETDVALID and CLEARDVALID do to bank owners and pointers.
+ghost use mathlib.Core.Path.{_≡_};
+ghost use mathlib.Core.Bool.{true};
+ghost use Prim.Native.Nat.{_<_};
+ghost use Rattle.machine.specs.Formed.{controlFormed};
+ghost use Rattle.control.specs.Banks.{giveToMatrix, giveToUnpackers, resetBanks, setDValidAfter, clearDValidAfter};
+use machine::control::Control;
+
+// The bank at the unpack pointer goes to Matrix, and the pointer flips.
+fn give_to_matrix(c: Control, file: usize) -> Control
+    requires { ⌜ (controlFormed c ≡ true) × (file < 2) ⌝ }
+    ensures { λ r. ⌜ r ≡ giveToMatrix c file ⌝ }
+{
+    let p = c.pointers[2 + file];
+    let bank = p as usize;
+    let mut d = c;
+    d.owners[2 * file + bank] = 1;
+    d.pointers[2 + file] = 1 - p;
+    d
+}
+
+// The bank at the matrix pointer goes to Unpackers, and the pointer flips unless it is kept.
+fn give_to_unpackers(c: Control, file: usize, keep: bool) -> Control
+    requires { ⌜ (controlFormed c ≡ true) × (file < 2) ⌝ }
+    ensures { λ r. ⌜ r ≡ giveToUnpackers c file keep ⌝ }
+{
+    let p = c.pointers[file];
+    let bank = p as usize;
+    let mut d = c;
+    d.owners[2 * file + bank] = 0;
+    if keep {
+        return d;
+    }
+    d.pointers[file] = 1 - p;
+    d
+}
+
+// Internal: the control part is in range.
+pub fn set_dvalid(c: Control, a: bool, b: bool) -> Control
+    requires { ⌜ controlFormed c ≡ true ⌝ }
+    ensures { λ r. ⌜ r ≡ setDValidAfter c a b ⌝ }
+{
+    if a {
+        let d = give_to_matrix(c, 0);
+        if b {
+            return give_to_matrix(d, 1);
+        }
+        return d;
+    }
+    if b {
+        return give_to_matrix(c, 1);
+    }
+    c
+}
+
+// All banks to Unpackers, all pointers 0.
+fn reset_banks(c: Control) -> Control
+    ensures { λ r. ⌜ r ≡ resetBanks c ⌝ }
+{
+    let mut d = c;
+    d.owners = [0; 4];
+    d.pointers = [0; 4];
+    d
+}
+
+// Internal: the control part is in range.
+pub fn clear_dvalid(c: Control, a: bool, b: bool, keep: bool, reset: bool) -> Control
+    requires { ⌜ controlFormed c ≡ true ⌝ }
+    ensures { λ r. ⌜ r ≡ clearDValidAfter c a b keep reset ⌝ }
+{
+    if reset {
+        return reset_banks(c);
+    }
+    if a {
+        let d = give_to_unpackers(c, 0, keep);
+        if b {
+            return give_to_unpackers(d, 1, keep);
+        }
+        return d;
+    }
+    if b {
+        return give_to_unpackers(c, 1, keep);
+    }
+    c
+}

@@ -1,0 +1,29 @@
+-- How many words come out. No count depends on what is carried, so the words are counted before any is written.
+use Prim.Native.Nat.{ℕ, _+_, _*_, min}
+use mathlib.Core.Bool.{cond}
+use mathlib.Core.List.{List, [], _∷_}
+use lib.Dec.{eqb}
+use Rattle.bits.specs.Field.{field, flag}
+use Rattle.expander.specs.Stream.{opcode}
+use Rattle.expander.specs.Templates.{nth}
+
+-- a count that stops one past its limit
+abbrev pub capped : ℕ → ℕ → ℕ
+capped limit n = min n (limit + 1)
+
+-- the words of a round of template 0, and of an outer round of template 1
+abbrev pub groupCount : List ℕ → ℕ
+groupCount m = 1 + 3 * field 1 1 (nth m 1) + field 0 1 (nth m 1)
+
+abbrev pub outerCount : ℕ → ℕ
+outerCount inner = 3 + 2 * inner
+
+unfoldable pub mopCount : List ℕ → ℕ → ℕ
+mopCount m word = cond (flag 23 word) (nth m 0 * outerCount (nth m 1)) ((field 16 7 word + 1) * groupCount m)
+
+unfoldable pub wordCount : List ℕ → ℕ → ℕ
+wordCount m word = cond (eqb (opcode word) 1) (mopCount m word) (cond (eqb (opcode word) 3) 0 1)
+
+unfoldable pub streamCount : List ℕ → List ℕ → ℕ
+streamCount m [] = 0
+streamCount m (word ∷ l) = wordCount m word + streamCount m l

@@ -1,0 +1,5 @@
+pub mod Templates
+pub mod Stream
+pub mod Call
+pub mod Counts
+pub mod Promises

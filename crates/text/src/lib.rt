@@ -1,0 +1,74 @@
+// Text written into a lent buffer: bytes, byte strings and decimal numbers. Each function answers where the next byte goes.
+ghost use mathlib.Core.Path.{_≡_};
+ghost use mathlib.Core.List.{[], _∷_};
+ghost use Prim.Native.Nat.{_+_, _≤_};
+ghost use lib.ListN.{length};
+ghost use Rattle.bits.specs.Overwrite.{over, Wrote};
+ghost use Rattle.text.specs.Decimal.{digitCount, lastDigits, decimal};
+
+// Internal: there is room.
+pub fn put_byte(out: &mut [u8], at: usize, b: u8) -> usize
+    requires { ⌜ at + 1 ≤ length (now out) ⌝ }
+    ensures { λ r. ⌜ Wrote (now (out .entry)) at (b ∷ []) (now (out .exit)) r ⌝ }
+{
+    out[at] = b;
+    at + 1
+}
+
+// Internal: there is room.
+pub fn put_text(out: &mut [u8], at: usize, text: &[u8]) -> usize
+    requires { ⌜ at + length (now text) ≤ length (now out) ⌝ }
+    ensures { λ r. ⌜ Wrote (now (out .entry)) at (now (text .entry)) (now (out .exit)) r ⌝ }
+{
+    let mut p = at;
+    let mut i: usize = 0;
+    while i < text.len() {
+        out[p] = text[i];
+        p += 1;
+        i += 1;
+    }
+    p
+}
+
+// How many digits a number has.
+fn digit_count(n: usize) -> usize
+    ensures { λ r. ⌜ r ≡ digitCount 20 n ⌝ }
+{
+    let mut m = n;
+    let mut k: usize = 0;
+    let mut left: usize = 20;
+    while 0 < left {
+        if m < 10 {
+            return k + 1;
+        }
+        m = m / 10;
+        k += 1;
+        left -= 1;
+    }
+    k
+}
+
+// The last k digits of a number, from the last back. Internal: there is room.
+fn put_digits(out: &mut [u8], at: usize, k: usize, n: usize)
+    requires { ⌜ at + k ≤ length (now out) ⌝ }
+    ensures { λ _. ⌜ now (out .exit) ≡ over (now (out .entry)) at (lastDigits k n) ⌝ }
+{
+    let mut m = n;
+    let mut left = k;
+    while 0 < left {
+        left -= 1;
+        out[at + left] = (m % 10 + 48) as u8;
+        m = m / 10;
+    }
+}
+
+// A number without leading zeros. Internal: there is room for the twenty digits of the largest.
+pub fn put_decimal(out: &mut [u8], at: usize, n: usize) -> usize
+    requires { ⌜ at + 20 ≤ length (now out) ⌝ }
+    ensures { λ r. ⌜ Wrote (now (out .entry)) at (decimal n) (now (out .exit)) r ⌝ }
+    ensures short { λ r. ⌜ r ≤ at + 20 ⌝ }
+{
+    let k = digit_count(n);
+    put_digits(out, at, k, n);
+    at + k
+}
