@@ -1,0 +1,5 @@
+pub mod Fields
+pub mod Lawful
+pub mod Writes
+pub mod Joins
+pub mod Runs

@@ -1,0 +1,39 @@
+-- The lines that the programs print (document 01, "Program and cases"). 10 ends a line, 32 is a space, 47 is `/`, 116 is `t`.
+use Prim.Native.Nat.{ℕ, _+_}
+use mathlib.Core.List.{List, [], _∷_, _++_}
+use Rattle.machine.specs.Numbers.{numberOf}
+use Rattle.run.specs.declared.cursor.Cursor.{Cursor}
+use Rattle.run.specs.declared.ending.Ending.{Ending}
+use Rattle.run.specs.declared.ending.Ending.the-variants.{Finished, Stuck, BudgetUsed, WordRefused, CallRefused}
+use Rattle.text.specs.Decimal.{decimal}
+use Rattle.report.specs.Words.{endWord, finishedWord, stuckWord, budgetWord, refusedWord, rejectedWord, turnsWord, nextWord, badRecordWord, badImageWord}
+
+abbrev pub lineEnd : List ℕ
+lineEnd = 10 ∷ []
+
+-- a text, a number and the line's end
+abbrev pub numberLine : List ℕ → ℕ → List ℕ
+numberLine words n = words ++ (decimal n ++ lineEnd)
+
+abbrev pub wordLine : List ℕ → List ℕ
+wordLine words = endWord ++ (words ++ lineEnd)
+
+-- `end finished`, `end stuck`, `end budget`, `end refused N`; of a refused call `rejected N`
+unfoldable pub endLine : Ending → List ℕ
+endLine Finished = wordLine finishedWord
+endLine Stuck = wordLine stuckWord
+endLine BudgetUsed = wordLine budgetWord
+endLine (WordRefused r) = endWord ++ numberLine refusedWord (numberOf r)
+endLine (CallRefused r) = numberLine rejectedWord (numberOf r)
+
+-- `t0 1/1`: the thread, its position and how many words it has
+unfoldable pub threadLine : ℕ → ℕ → ℕ → List ℕ
+threadLine t at n = (116 ∷ (48 + t) ∷ 32 ∷ []) ++ (decimal at ++ ((47 ∷ []) ++ (decimal n ++ lineEnd)))
+
+-- the three lines of the threads
+unfoldable pub threadLines : Cursor → ℕ → ℕ → ℕ → List ℕ
+threadLines c n0 n1 n2 = threadLine 0 (c .at0) n0 ++ (threadLine 1 (c .at1) n1 ++ threadLine 2 (c .at2) n2)
+
+-- the five lines of a run
+unfoldable pub runLines : Ending → ℕ → Cursor → ℕ → ℕ → ℕ → List ℕ
+runLines e turns c n0 n1 n2 = endLine e ++ (numberLine turnsWord turns ++ threadLines c n0 n1 n2)

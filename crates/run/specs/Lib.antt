@@ -1,0 +1,10 @@
+pub mod Streams
+pub mod Cursor
+pub mod Turn
+pub mod Ending
+pub mod Checks
+pub mod Run
+pub mod Ready
+pub mod Numbers
+pub mod Isolation
+pub mod StuckForGood

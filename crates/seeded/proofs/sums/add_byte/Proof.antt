@@ -1,0 +1,21 @@
+use native.Mathlib.Omega.{arith}
+use Rattle.seeded.proofs.AdlerLaws.{byte-once}
+use mathlib.Core.Path.{_∙_}
+use borrow.Author.Needs.{needs}
+use Rattle.seeded.proofs.sums.add_byte.Statement.{statement}
+use Rattle.seeded.proofs.sums.add_byte.Tie as tie
+
+returns : tie.Need-returns
+returns c = let a = c .before .before .before .args in c .remainders .ensures ∙ byte-once (a .s) (a .v) (omega arith)
+
+pub add-byte-spec : {M : Type 1} → statement M
+add-byte-spec =
+    tie.close
+    (tie.spec
+    (λ c. search needs)
+    (λ c. search needs)
+    (λ c. search needs)
+    (λ c. search needs)
+    (λ c. search needs)
+    (λ c κs. search needs)
+    returns)

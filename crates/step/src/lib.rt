@@ -1,0 +1,220 @@
+// One word on the whole machine.
+ghost use mathlib.Core.Path.{_≡_};
+ghost use mathlib.Core.Bool.{true};
+ghost use Prim.Native.Nat.{_<_};
+ghost use Rattle.machine.specs.Machine.{machine, stores};
+ghost use Rattle.machine.specs.Formed.{sized, formed, controlFormed};
+ghost use Rattle.words.specs.InRange.{InRange};
+ghost use Rattle.step.specs.Step.{stepped, passOf, gatedOf, offerOf, checkOf, stepOf};
+ghost use Rattle.step.specs.Alike.{OffersAlike};
+ghost use Rattle.step.specs.Kept.{KeepsFormed};
+use control::gate::Gate;
+use machine::control::Control;
+use machine::refusal::Outcome;
+use machine::refusal::Refusal;
+use words::instruction::Decoded;
+use words::instruction::Instruction;
+
+// What came of a word, and the control part after it. The stores are written where they are lent.
+pub struct Stepped {
+    pub outcome: Outcome,
+    pub control: Control,
+}
+
+// The effect of a word that passes. Internal: the machine, the thread and the instruction are in range.
+fn pass(
+    control: Control,
+    settings: &mut [u16],
+    gprs: &mut [u32],
+    config: &mut [u32],
+    dest: &[u16],
+    marks: &mut [bool],
+    src_a: &mut [u32],
+    src_b: &mut [u32],
+    t: usize,
+    i: Instruction,
+) -> Stepped
+    requires { ⌜ (sized (machine control (now settings) (stores (now gprs) (now config) (now dest) (now marks) (now «src_a») (now «src_b»))) ≡ true) × (controlFormed control ≡ true) × (t < 3) × InRange i ⌝ }
+    ensures { λ r. ⌜ stepped (r .outcome) (machine (r .control) (now (settings .exit)) (stores (now (gprs .exit)) (now (config .exit)) (now (dest .entry)) (now (marks .exit)) (now («src_a» .exit)) (now («src_b» .exit)))) ≡ passOf (machine control (now (settings .entry)) (stores (now (gprs .entry)) (now (config .entry)) (now (dest .entry)) (now (marks .entry)) (now («src_a» .entry)) (now («src_b» .entry)))) t i ⌝ }
+{
+    let bank_a = control.pointers[0] as usize;
+    let bank_b = control.pointers[1] as usize;
+    stores::apply(
+        settings,
+        gprs,
+        config,
+        marks,
+        src_a,
+        src_b,
+        t,
+        bank_a,
+        bank_b,
+        i,
+    );
+    let after = control::after::control_after(control, t, i);
+    Stepped {
+        outcome: Outcome::Passed,
+        control: after,
+    }
+}
+
+// A word that says something: it passes, or is stalled and changes nothing. Internal, as pass.
+fn gated(
+    control: Control,
+    settings: &mut [u16],
+    gprs: &mut [u32],
+    config: &mut [u32],
+    dest: &[u16],
+    marks: &mut [bool],
+    src_a: &mut [u32],
+    src_b: &mut [u32],
+    t: usize,
+    i: Instruction,
+) -> Stepped
+    requires { ⌜ (sized (machine control (now settings) (stores (now gprs) (now config) (now dest) (now marks) (now «src_a») (now «src_b»))) ≡ true) × (controlFormed control ≡ true) × (t < 3) × InRange i ⌝ }
+    ensures { λ r. ⌜ stepped (r .outcome) (machine (r .control) (now (settings .exit)) (stores (now (gprs .exit)) (now (config .exit)) (now (dest .entry)) (now (marks .exit)) (now («src_a» .exit)) (now («src_b» .exit)))) ≡ gatedOf (machine control (now (settings .entry)) (stores (now (gprs .entry)) (now (config .entry)) (now (dest .entry)) (now (marks .entry)) (now («src_a» .entry)) (now («src_b» .entry)))) t i ⌝ }
+{
+    let g = control::gate::may_pass(control, t, i);
+    match g {
+        Gate::Closed(cause) => Stepped {
+            outcome: Outcome::Stalled(cause),
+            control,
+        },
+        Gate::Open => pass(
+            control,
+            settings,
+            gprs,
+            config,
+            dest,
+            marks,
+            src_a,
+            src_b,
+            t,
+            i,
+        ),
+    }
+}
+
+// A word offered by a thread. Internal: the machine is well formed and the thread in range; a run sees to that once.
+pub fn offer(
+    control: Control,
+    settings: &mut [u16],
+    gprs: &mut [u32],
+    config: &mut [u32],
+    dest: &[u16],
+    marks: &mut [bool],
+    src_a: &mut [u32],
+    src_b: &mut [u32],
+    t: usize,
+    word: u32,
+) -> Stepped
+    requires { ⌜ (sized (machine control (now settings) (stores (now gprs) (now config) (now dest) (now marks) (now «src_a») (now «src_b»))) ≡ true) × (controlFormed control ≡ true) × (t < 3) ⌝ }
+    ensures { λ r. ⌜ stepped (r .outcome) (machine (r .control) (now (settings .exit)) (stores (now (gprs .exit)) (now (config .exit)) (now (dest .entry)) (now (marks .exit)) (now («src_a» .exit)) (now («src_b» .exit)))) ≡ offerOf (machine control (now (settings .entry)) (stores (now (gprs .entry)) (now (config .entry)) (now (dest .entry)) (now (marks .entry)) (now («src_a» .entry)) (now («src_b» .entry)))) t word ⌝ }
+{
+    let d = words::decode::decode(word);
+    match d {
+        Decoded::Rejects(r) => Stepped {
+            outcome: Outcome::Refused(r),
+            control,
+        },
+        Decoded::Decodes(i) => gated(
+            control,
+            settings,
+            gprs,
+            config,
+            dest,
+            marks,
+            src_a,
+            src_b,
+            t,
+            i,
+        ),
+    }
+}
+
+// What the checks of a call find.
+pub enum CallCheck {
+    Fine,
+    Refuses(Refusal),
+}
+
+// Refusals 4, 10 and 1.
+fn check_call(
+    control: Control,
+    settings: &[u16],
+    gprs: &[u32],
+    config: &[u32],
+    dest: &[u16],
+    marks: &[bool],
+    src_a: &[u32],
+    src_b: &[u32],
+    thread: u32,
+) -> CallCheck
+    ensures { λ r. ⌜ r ≡ checkOf (machine control (now (settings .entry)) (stores (now (gprs .entry)) (now (config .entry)) (now (dest .entry)) (now (marks .entry)) (now («src_a» .entry)) (now («src_b» .entry)))) thread ⌝ }
+{
+    let sized = formed::machine_sized(control, settings, gprs, config, dest, marks, src_a, src_b);
+    let ranged = formed::machine_formed(control, settings, gprs, config, dest, marks, src_a, src_b);
+    if !sized {
+        return CallCheck::Refuses(Refusal::BadLength);
+    }
+    if !ranged {
+        return CallCheck::Refuses(Refusal::Malformed);
+    }
+    if thread < 3 {
+        return CallCheck::Fine;
+    }
+    CallCheck::Refuses(Refusal::BadThread)
+}
+
+// One word of a thread on a machine: refusals 4, 10, 1, then the word's 2 and 3, then the stalls, else passed.
+pub fn step(
+    control: Control,
+    settings: &mut [u16],
+    gprs: &mut [u32],
+    config: &mut [u32],
+    dest: &[u16],
+    marks: &mut [bool],
+    src_a: &mut [u32],
+    src_b: &mut [u32],
+    thread: u32,
+    word: u32,
+) -> Stepped
+    ensures { λ r. ⌜ stepped (r .outcome) (machine (r .control) (now (settings .exit)) (stores (now (gprs .exit)) (now (config .exit)) (now (dest .entry)) (now (marks .exit)) (now («src_a» .exit)) (now («src_b» .exit)))) ≡ stepOf (machine control (now (settings .entry)) (stores (now (gprs .entry)) (now (config .entry)) (now (dest .entry)) (now (marks .entry)) (now («src_a» .entry)) (now («src_b» .entry)))) thread word ⌝ }
+{
+    let k = check_call(
+        control,
+        &settings[..],
+        &gprs[..],
+        &config[..],
+        dest,
+        &marks[..],
+        &src_a[..],
+        &src_b[..],
+        thread,
+    );
+    match k {
+        CallCheck::Refuses(r) => Stepped {
+            outcome: Outcome::Refused(r),
+            control,
+        },
+        CallCheck::Fine => offer(
+            control,
+            settings,
+            gprs,
+            config,
+            dest,
+            marks,
+            src_a,
+            src_b,
+            thread as usize,
+            word,
+        ),
+    }
+}
+
+// The laws of a word that are no single function's: it keeps a well-formed machine well formed, and it goes alike on
+// machines that agree on control part and thread settings.
+pub fn promises()
+    ensures kept { λ _. ⌜ KeepsFormed ⌝ }
+    ensures alike { λ _. ⌜ OffersAlike ⌝ }
+{}

@@ -1,0 +1,9 @@
+pub mod CopyLaws
+pub mod ValueLaws
+pub mod FaceLaws
+pub mod ByteLaws
+pub mod MarkLaws
+pub mod AllCleared
+pub mod Lengths
+pub mod Ranges
+pub mod Keeps

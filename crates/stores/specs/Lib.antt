@@ -1,0 +1,10 @@
+pub mod Places
+pub mod Copies
+pub mod Values
+pub mod Face
+pub mod Settings
+pub mod Gprs
+pub mod Config
+pub mod Marks
+pub mod Sources
+pub mod After
