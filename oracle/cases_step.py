@@ -27,16 +27,7 @@ OPCODE = {name: opcode for opcode, (name, _, _) in TABLE.items()}
 
 # Machines that a call must refuse.
 
-NUMBERS = {
-    1: lambda machine: machine.mutexes.__setitem__(7, 4),
-    2: lambda machine: machine.semaphores.__setitem__(7, [16, 15]),
-    3: lambda machine: machine.semaphores.__setitem__(0, [0, 16]),
-    4: lambda machine: machine.owners.__setitem__(3, 2),
-    5: lambda machine: machine.pointers.__setitem__(3, 2),
-    6: lambda machine: machine.waits.__setitem__(0, ('stall', 512, 0)),
-    7: lambda machine: machine.waits.__setitem__(1, ('stall', 0, 32768)),
-    8: lambda machine: machine.waits.__setitem__(2, ('semaphore', 512, 0, 0)),
-    9: lambda machine: machine.waits.__setitem__(0, ('semaphore', 0, 0, 4)),
+CELLS = {
     10: lambda machine: machine.src_a[1][63].__setitem__(15, 0x80000),
     11: lambda machine: machine.src_b[0][0].__setitem__(0, 0x80000),
 }
@@ -64,7 +55,9 @@ class Group:
     def __init__(self, seed):
         self.seed = seed
         self.machine = seeded.machine(seed)
-        NUMBERS.get(bits(seed, 24, 27), lambda machine: None)(self.machine)
+        number = bits(seed, 24, 27)
+        seeded.put_at_limit(self.machine, number)
+        CELLS.get(number, lambda machine: None)(self.machine)
         self.lent = shortened(self.machine, bits(seed, 28, 31))
         self.sum = seeded.digest(self.machine)
         self.cases, self.lines = [], []

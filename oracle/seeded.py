@@ -23,6 +23,14 @@ class Draws:
         high = self.draw()
         return (high << 16) | self.draw()
 
+    def cell(self):
+        """A source cell: a word's low 19 bits."""
+        return self.word() & 0x7FFFF
+
+    def mark(self):
+        """Set where the number drawn is odd."""
+        return self.draw() % 2 == 1
+
     def words(self, count):
         """A stream of words."""
         return [self.word() for _ in range(count)]
@@ -42,24 +50,26 @@ def rows(make, count, columns=16):
     return [[make() for _ in range(columns)] for _ in range(count)]
 
 
-def machine_from(draws):
-    """A well formed machine from the next draws."""
-    draw, word = draws.draw, draws.word
-
-    def cell():
-        return word() & 0x7FFFF
-
-    made = Machine()
+def control_from(draws, made):
+    """The machine's control part, from the next draws."""
+    draw = draws.draw
     made.mutexes = [draw() % 4 for _ in range(8)]
     made.semaphores = [[draw() % 16, draw() % 16] for _ in range(8)]
     made.waits = [draws.wait() for _ in range(3)]
     made.owners = [draw() % 2 for _ in range(4)]
     made.pointers = [draw() % 2 for _ in range(4)]
+
+
+def machine_from(draws):
+    """A well formed machine from the next draws."""
+    draw, word, cell = draws.draw, draws.word, draws.cell
+    made = Machine()
+    control_from(draws, made)
     made.settings = rows(draw, 3, 64)
     made.gprs = rows(word, 3, 64)
     made.config = rows(word, 2, 256)
     made.dest = rows(draw, 1024)
-    made.marks = [draw() % 2 == 1 for _ in range(1024)]
+    made.marks = [draws.mark() for _ in range(1024)]
     made.src_a = [rows(cell, 64) for _ in range(2)]
     made.src_b = [rows(cell, 64) for _ in range(2)]
     return made
@@ -68,6 +78,33 @@ def machine_from(draws):
 def machine(seed):
     """The machine of a seed."""
     return machine_from(Draws(seed))
+
+
+# Numbers of the control part just past their range, and at the end of it.
+PAST = {
+    1: ('mutexes', 7, 4),
+    2: ('semaphores', 7, [16, 15]),
+    3: ('semaphores', 0, [0, 16]),
+    4: ('owners', 3, 2),
+    5: ('pointers', 3, 2),
+    6: ('waits', 0, ('stall', 512, 0)),
+    7: ('waits', 1, ('stall', 0, 32768)),
+    8: ('waits', 2, ('semaphore', 512, 0, 0)),
+    9: ('waits', 0, ('semaphore', 0, 0, 4)),
+}
+AT_END = {
+    16: ('mutexes', 7, 3),
+    17: ('semaphores', 7, [15, 15]),
+    18: ('waits', 1, ('stall', 511, 32767)),
+    19: ('waits', 2, ('semaphore', 511, 255, 3)),
+}
+
+
+def put_at_limit(made, number):
+    """Puts the numbers of a limit into a machine; any other number leaves it."""
+    part, place, value = (PAST | AT_END).get(number, (None, None, None))
+    if part is not None:
+        getattr(made, part)[place] = value[:] if isinstance(value, list) else value
 
 
 flat = chain.from_iterable

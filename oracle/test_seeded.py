@@ -70,6 +70,22 @@ class Machines(unittest.TestCase):
         self.assertTrue({None, 'stall', 'semaphore'} <= set(kinds))
 
 
+class Limits(unittest.TestCase):
+    def test_past_a_range_and_at_its_end(self):
+        for number in range(32):
+            machine = busy(3)
+            seeded.put_at_limit(machine, number)
+            self.assertEqual(well_formed(machine), number not in seeded.PAST, number)
+            self.assertEqual(machine == busy(3), number not in seeded.PAST | seeded.AT_END, number)
+
+    def test_limits_are_not_shared(self):
+        machine = busy(3)
+        seeded.put_at_limit(machine, 17)
+        machine.semaphores[7][0] = 0
+        seeded.put_at_limit(machine, 17)
+        self.assertEqual(machine.semaphores[7], [15, 15])
+
+
 class Digest(unittest.TestCase):
     def test_fresh(self):
         # Of 53,423 zero bytes.

@@ -5,6 +5,8 @@ ghost use Prim.Native.Nat.{_<_};
 ghost use Rattle.machine.specs.Formed.{controlFormed};
 ghost use Rattle.control.specs.Banks.{giveToMatrix, giveToUnpackers, resetBanks, setDValidAfter, clearDValidAfter};
 use machine::control::Control;
+use machine::sizes::BANK_POINTERS;
+use machine::sizes::SOURCE_BANKS;
 
 // The bank at the unpack pointer goes to Matrix, and the pointer flips.
 fn give_to_matrix(c: Control, file: usize) -> Control
@@ -58,8 +60,8 @@ fn reset_banks(c: Control) -> Control
     ensures { λ r. ⌜ r ≡ resetBanks c ⌝ }
 {
     let mut d = c;
-    d.owners = [0; 4];
-    d.pointers = [0; 4];
+    d.owners = [0; SOURCE_BANKS];
+    d.pointers = [0; BANK_POINTERS];
     d
 }
 

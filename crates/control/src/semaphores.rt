@@ -2,6 +2,7 @@
 ghost use mathlib.Core.Path.{_≡_};
 ghost use Rattle.control.specs.Semaphores.{changedBy, maskedChange, changeMasked, meets, maskedMeets, someMeets};
 use machine::control::Semaphore;
+use machine::sizes::SEMAPHORES;
 
 // What a word does to each semaphore of its mask.
 pub enum SemaphoreChange {
@@ -50,13 +51,17 @@ fn changed_if(s: Semaphore, m: u8, k: SemaphoreChange) -> Semaphore
 }
 
 // Each semaphore of the mask changed.
-pub fn change_masked(all: [Semaphore; 8], mask: u8, k: SemaphoreChange) -> [Semaphore; 8]
+pub fn change_masked(
+    all: [Semaphore; SEMAPHORES],
+    mask: u8,
+    k: SemaphoreChange,
+) -> [Semaphore; SEMAPHORES]
     ensures { λ r. ⌜ r ≡ changeMasked k all mask ⌝ }
 {
     let mut a = all;
     let mut m = mask;
     let mut i: usize = 0;
-    while i < 8 {
+    while i < SEMAPHORES {
         let s = a[i];
         a[i] = changed_if(s, m, k);
         m = m / 2;
@@ -87,12 +92,12 @@ fn meets_if(s: Semaphore, m: u8, condition: u8) -> bool
 }
 
 // Whether some semaphore of the mask meets the condition.
-pub fn some_meets(all: [Semaphore; 8], mask: u8, condition: u8) -> bool
+pub fn some_meets(all: [Semaphore; SEMAPHORES], mask: u8, condition: u8) -> bool
     ensures { λ r. ⌜ r ≡ someMeets condition all mask ⌝ }
 {
     let mut m = mask;
     let mut i: usize = 0;
-    while i < 8 {
+    while i < SEMAPHORES {
         let s = all[i];
         if meets_if(s, m, condition) {
             return true;

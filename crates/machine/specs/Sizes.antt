@@ -1,6 +1,10 @@
 -- How many there are of each thing (document 01, "The machine").
 use Prim.Native.Nat.{ℕ}
 
+-- the threads
+abbrev pub threadCount : ℕ
+threadCount = 3
+
 -- a thread's GPRs and its ThreadConfig entries
 abbrev pub threadGprs : ℕ
 threadGprs = 64

@@ -19,7 +19,8 @@ use Rattle.run.specs.declared.ending.Halt.the-variants.{Ends, GoesOn}
 use Rattle.run.specs.Streams.{Streams}
 use Rattle.run.specs.Checks.{streamsSized, placed, needed, callCheck}
 use Rattle.run.specs.Ready.{Lengths, Within, Ready}
-use Rattle.run.specs.Run.{Run, stop, runFrom, runOf}
+use Rattle.run.specs.Run.{Run, Summary, stop, runFrom, runOf}
+use Rattle.run.specs.Numbers.{answerNumbers}
 
 module _ (s : Streams) (m : Machine) (c : Cursor) (budget : ℕ) (h : Halt) (eh : h ≡ callCheck s m c budget) where
   pub call-refused : (a : Ending) → h ≡ Ends a → stop a m c ≡ runOf s m c budget
@@ -94,3 +95,7 @@ pub ready-call : (s : Streams) (m : Machine) (c : Cursor) (budget : ℕ) → Rea
 unfolding callCheck
 ready-call s m c budget r h =
     rw (and-left (sized m) (formed m) (r .whole), and-right (sized m) (formed m) (r .whole), of-lengths s (r .lengths), of-within s c (r .within), le-leb budget budgetMost h)
+
+-- equal summaries have equal numbers
+pub numbered : (x y : Summary) → x ≡ y → (x ≡ y) × (answerNumbers (x .answer) ≡ answerNumbers (y .answer))
+numbered x y e = (e, ap (λ (z : Summary). answerNumbers (z .answer)) e)

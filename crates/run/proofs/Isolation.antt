@@ -6,6 +6,7 @@ use mathlib.Core.List.{List, Forall₂, Forall₂·nil, Forall₂·cons}
 use Rattle.bits.proofs.Choices.{and-left, and-right}
 use Rattle.machine.specs.declared.refusal.Outcome.{Outcome}
 use Rattle.machine.specs.Machine.{Machine}
+use Rattle.machine.specs.Numbers.{outcomeNumbers}
 use Rattle.machine.specs.Formed.{sized, formed, wellFormed}
 use Rattle.step.specs.Alike.{Agree}
 use Rattle.step.proofs.Alike.{offers-alike}
@@ -22,7 +23,6 @@ use Rattle.run.specs.Turn.{Turn, byWord, turnOf}
 use Rattle.run.specs.Ending.{haltOf, refusedWord, quietAfter}
 use Rattle.run.specs.Checks.{callCheck}
 use Rattle.run.specs.Run.{Run, stop, before, unless, runFrom, runOf}
-use Rattle.run.specs.Numbers.{outcomeNumbers}
 use Rattle.run.specs.Isolation.{TurnsAlike, RunsAlike, Isolated}
 
 turns-alike : (s : Streams) (c : Cursor) (m n : Machine) → Agree m n → TurnsAlike (turnOf s m c) (turnOf s n c)

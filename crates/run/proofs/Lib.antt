@@ -6,3 +6,4 @@ pub mod Isolation
 pub mod Waiting
 pub mod Settled
 pub mod Stuck
+pub mod Kept

@@ -28,7 +28,7 @@ use Rattle.run.specs.Ready.{Ready}
 use Rattle.run.specs.StuckForGood.{waiting}
 use Rattle.run.proofs.Calls.{call-ready}
 use Rattle.run.proofs.Turning.{onward-within, turn-ready}
-use Rattle.run.proofs.Waiting.{onward-round, Waits, waited, turn-keeps, turn-moves}
+use Rattle.run.proofs.Waiting.{onward-round, Waits, waited, turn-waits, turn-moves}
 
 pub record Settled (s : Streams) (m : Machine) (c : Cursor) : Type 0 where
   pub ready : Ready s m c
@@ -45,7 +45,7 @@ Held s m c (suc quiet) = Waits s m (onwardOf (onwardOf c)) × Held s m (onwardOf
 -- one turn more
 held-waits : (s : Streams) (m : Machine) (c : Cursor) (quiet : ℕ) → c .next < 3 → Waits s m c → Held s m c quiet →
     Held s (turnOf s m c .after) (turnOf s m c .cursor) (quiet + 1)
-held-waits s m c quiet t w h = rw (turn-keeps s m c w, turn-moves s m c w, add-one quiet) (rw (onward-round c t) (w, h))
+held-waits s m c quiet t w h = rw (turn-waits s m c w, turn-moves s m c w, add-one quiet) (rw (onward-round c t) (w, h))
 
 held-turn : (s : Streams) (m : Machine) (c : Cursor) (quiet : ℕ) → c .next < 3 → Held s m c quiet →
     refusedWord (turnOf s m c .outcome) ≡ GoesOn → Held s (turnOf s m c .after) (turnOf s m c .cursor) (quietAfter (turnOf s m c .outcome) quiet)

@@ -25,7 +25,7 @@ use Rattle.run.specs.StuckForGood.{SamePositions, StillTurn, StaysStuck,
 use Rattle.run.proofs.Halting.{run-halts, run-on}
 use Rattle.run.proofs.Calls.{ready-call, call-runs}
 use Rattle.run.proofs.Turning.{onward-within}
-use Rattle.run.proofs.Waiting.{onward-round, waited, turn-keeps, turn-moves}
+use Rattle.run.proofs.Waiting.{onward-round, waited, turn-waits, turn-moves}
 use Rattle.run.proofs.Settled.{Settled, run-settles}
 
 -- the same from the following thread's turn
@@ -97,7 +97,7 @@ module _ (s : Streams) (m : Machine) (d : Cursor) where
   unfolding haltOf
   stays-turn c quiet left x p l r =
       let w = waited (turnOf s m c .outcome) c quiet (x .first) in
-      let keeps = turn-keeps s m c (x .first) in
+      let keeps = turn-waits s m c (x .first) in
       let moves = turn-moves s m c (x .first) in
       let due : haltOf s c quiet (suc left) ≡ GoesOn = rw (x .words, lt-leb 3 quiet l, eqb·suc-zero left) in
       rw (run-on s quiet m c left due (w .goes), w .counts, add-one quiet)

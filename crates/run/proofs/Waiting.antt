@@ -1,19 +1,14 @@
 -- A turn that is idle or stalled leaves the machine as it is and goes on to the following thread.
 use Prim.Native.Nat.{ℕ, zero, suc, _+_, _<_}
 use mathlib.Core.Path.{_≡_, refl, ap}
-use mathlib.Core.Bool.{true}
+use mathlib.Core.Bool.{true, false}
 use native.Mathlib.Omega.{arith}
 use Rattle.machine.specs.declared.refusal.Outcome.{Outcome}
 use Rattle.machine.specs.declared.refusal.Outcome.the-variants.{Idle, Passed, Stalled, Refused}
 use Rattle.machine.specs.Machine.{Machine}
-use Rattle.words.specs.declared.instruction.Instruction.{Instruction}
-use Rattle.words.specs.declared.instruction.Decoded.{Decoded}
-use Rattle.words.specs.declared.instruction.Decoded.the-variants.{Decodes, Rejects}
-use Rattle.words.specs.Decode.{decodeOf}
-use Rattle.control.specs.declared.gate.Gate.{Gate}
-use Rattle.control.specs.declared.gate.Gate.the-variants.{Open, Closed}
-use Rattle.control.specs.Gate.{gateOf}
-use Rattle.step.specs.Step.{offerOf, gatedOf, byDecoded, byGate}
+use Rattle.step.specs.Step.{offerOf}
+use Rattle.step.specs.Unchanged.{hasPassed}
+use Rattle.step.proofs.Unchanged.{offer-unchanged}
 use Rattle.run.specs.declared.cursor.Cursor.{Cursor}
 use Rattle.run.specs.declared.streams.Offered.{Offered}
 use Rattle.run.specs.declared.streams.Offered.the-variants.{NextWord, NoWord}
@@ -36,18 +31,6 @@ pub onward-round : (c : Cursor) → c .next < 3 → onwardOf (onwardOf (onwardOf
 unfolding onwardOf
 onward-round c h = ap (λ (t : ℕ). cursor (c .at0) (c .at1) (c .at2) t) (threads-round (c .next) h)
 
-offer-waits : (m : Machine) (t w : ℕ) → waiting (offerOf m t w .outcome) ≡ true → offerOf m t w .after ≡ m
-unfolding offerOf gatedOf
-offer-waits m t w e = said (decodeOf w) e
-  where
-    gated : (i : Instruction) (g : Gate) → waiting (byGate m t i g .outcome) ≡ true → byGate m t i g .after ≡ m
-    gated i Open h = let z : _≡_ {A = ℕ} 0 1 = cc in absurd (omega arith)
-    gated i (Closed k) h = refl
-
-    said : (d : Decoded) → waiting (byDecoded m t d .outcome) ≡ true → byDecoded m t d .after ≡ m
-    said (Decodes i) h = gated i (gateOf (m .control) t i) h
-    said (Rejects r) h = refl
-
 -- what a turn with such an outcome does to the cursor and to the count of turns without a passed word
 pub record Waited (o : Outcome) (c : Cursor) (quiet : ℕ) : Type 0 where
   pub moves : movedOf o c ≡ onwardOf c
@@ -64,13 +47,23 @@ waited (Refused r) c quiet h = let z : _≡_ {A = ℕ} 0 1 = cc in absurd (omega
 abbrev pub Waits : Streams → Machine → Cursor → Type 0
 Waits s m c = waiting (turnOf s m c .outcome) ≡ true
 
-pub turn-keeps : (s : Streams) (m : Machine) (c : Cursor) → Waits s m c → turnOf s m c .after ≡ m
+waiting-quiet : (o : Outcome) → waiting o ≡ true → hasPassed o ≡ false
+waiting-quiet Idle h = refl
+waiting-quiet Passed h = let z : _≡_ {A = ℕ} 0 1 = cc in absurd (omega arith)
+waiting-quiet (Stalled k) h = refl
+waiting-quiet (Refused r) h = refl
+
+-- a turn without a passed word
+pub turn-keeps : (s : Streams) (m : Machine) (c : Cursor) → hasPassed (turnOf s m c .outcome) ≡ false → turnOf s m c .after ≡ m
 unfolding turnOf
 turn-keeps s m c h = go (nextWord s c) h
   where
-    go : (o : Offered) → waiting (byWord m c o .outcome) ≡ true → byWord m c o .after ≡ m
+    go : (o : Offered) → hasPassed (byWord m c o .outcome) ≡ false → byWord m c o .after ≡ m
     go NoWord e = refl
-    go (NextWord w) e = offer-waits m (c .next) w e
+    go (NextWord w) e = offer-unchanged m (c .next) w e
+
+pub turn-waits : (s : Streams) (m : Machine) (c : Cursor) → Waits s m c → turnOf s m c .after ≡ m
+turn-waits s m c h = turn-keeps s m c (waiting-quiet (turnOf s m c .outcome) h)
 
 pub turn-moves : (s : Streams) (m : Machine) (c : Cursor) → Waits s m c → turnOf s m c .cursor ≡ onwardOf c
 unfolding turnOf

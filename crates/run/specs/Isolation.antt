@@ -5,13 +5,14 @@ use mathlib.Core.Bool.{true}
 use mathlib.Core.List.{Forall₂}
 use lib.ListN.{length}
 use Rattle.machine.specs.Machine.{Machine}
+use Rattle.machine.specs.Numbers.{outcomeNumbers}
 use Rattle.machine.specs.Formed.{wellFormed}
 use Rattle.step.specs.Alike.{Agree}
 use Rattle.run.specs.declared.cursor.Cursor.{Cursor}
 use Rattle.run.specs.Streams.{Streams}
 use Rattle.run.specs.Turn.{Turn}
 use Rattle.run.specs.Run.{Run, runOf}
-use Rattle.run.specs.Numbers.{outcomeNumbers, answerNumbers}
+use Rattle.run.specs.Numbers.{answerNumbers}
 
 -- two turns
 pub record TurnsAlike (t u : Turn) : Type 0 where

@@ -8,3 +8,4 @@ pub mod Ready
 pub mod Numbers
 pub mod Isolation
 pub mod StuckForGood
+pub mod Kept

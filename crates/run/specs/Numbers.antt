@@ -1,18 +1,9 @@
--- Document 01's numbers of a turn's outcome and of a run's answer, with the values that come back with them.
+-- Document 01's numbers of a run's answer, with the values that come back with them.
 use Prim.Native.Nat.{ℕ}
 use mathlib.Core.List.{List, [], _∷_}
-use Rattle.machine.specs.declared.refusal.Outcome.{Outcome}
-use Rattle.machine.specs.declared.refusal.Outcome.the-variants.{Idle, Passed, Stalled, Refused}
-use Rattle.machine.specs.Numbers.{numberOf, valuesOf, stallNumberOf}
+use Rattle.machine.specs.Numbers.{numberOf, valuesOf}
 use Rattle.run.specs.declared.ending.Ending.{Ending}
 use Rattle.run.specs.declared.ending.Ending.the-variants.{Finished, Stuck, BudgetUsed, WordRefused, CallRefused}
-
--- stalled and refused have a number
-abbrev pub outcomeNumbers : Outcome → List ℕ
-outcomeNumbers Idle = []
-outcomeNumbers Passed = []
-outcomeNumbers (Stalled cause) = stallNumberOf cause ∷ []
-outcomeNumbers (Refused r) = numberOf r ∷ valuesOf r
 
 -- refused has a number; finished, stuck and budget have none
 abbrev pub answerNumbers : Ending → List ℕ

@@ -12,6 +12,8 @@ ghost use Rattle.run.specs.Streams.{streams};
 ghost use Rattle.run.specs.Run.{runOf, summaryOf, summary};
 ghost use Rattle.run.specs.Isolation.{Isolated};
 ghost use Rattle.run.specs.StuckForGood.{StuckForGood};
+ghost use Rattle.run.specs.Kept.{RunKeeps};
+ghost use Rattle.run.specs.Numbers.{answerNumbers};
 use crate::checks::check_call;
 use crate::course::take_turns;
 use crate::cursor::Cursor;
@@ -45,6 +47,7 @@ pub fn run(
     budget: u32,
 ) -> Ran
     ensures { λ r. ⌜ summary (r .answer) (r .turns) (machine (r .control) (now (settings .exit)) (stores (now (gprs .exit)) (now (config .exit)) (now (dest .entry)) (now (marks .exit)) (now («src_a» .exit)) (now («src_b» .exit)))) (r .cursor) ≡ summaryOf (runOf (streams (now (s0 .entry)) (now (s1 .entry)) (now (s2 .entry))) (machine control (now (settings .entry)) (stores (now (gprs .entry)) (now (config .entry)) (now (dest .entry)) (now (marks .entry)) (now («src_a» .entry)) (now («src_b» .entry)))) cursor budget) ⌝ }
+    ensures numbers { λ r. ⌜ answerNumbers (r .answer) ≡ answerNumbers (runOf (streams (now (s0 .entry)) (now (s1 .entry)) (now (s2 .entry))) (machine control (now (settings .entry)) (stores (now (gprs .entry)) (now (config .entry)) (now (dest .entry)) (now (marks .entry)) (now («src_a» .entry)) (now («src_b» .entry)))) cursor budget .answer) ⌝ }
 {
     let h = check_call(
         control,
@@ -86,8 +89,10 @@ pub fn run(
     }
 }
 
-// What holds of runs and is no single function's: condition 3, and that a stuck run is stuck for good.
+// What holds of runs and is no single function's: condition 3, what a run leaves as it is, and that a stuck run is stuck for
+// good.
 pub fn promises()
     ensures isolated { λ _. ⌜ Isolated ⌝ }
+    ensures keeps { λ _. ⌜ RunKeeps ⌝ }
     ensures stuck { λ _. ⌜ StuckForGood ⌝ }
 {}

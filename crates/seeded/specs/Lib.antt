@@ -1,5 +1,6 @@
 pub mod Draws
 pub mod Controls
+pub mod Limits
 pub mod Whole
 pub mod Adler
 pub mod Digest

@@ -1,3 +1,4 @@
 pub mod Ways
 pub mod Alike
 pub mod Kept
+pub mod Unchanged

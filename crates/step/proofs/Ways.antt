@@ -14,6 +14,7 @@ use Rattle.machine.specs.declared.refusal.Refusal.{Refusal}
 use Rattle.machine.specs.declared.refusal.Refusal.the-variants.{BadThread, BadLength, Malformed}
 use Rattle.machine.specs.Machine.{Machine, Stores, machine}
 use Rattle.machine.specs.Formed.{sized, formed, controlFormed}
+use Rattle.machine.specs.Numbers.{outcomeNumbers}
 use Rattle.words.specs.declared.instruction.Instruction.{Instruction}
 use Rattle.words.specs.declared.instruction.Decoded.{Decoded}
 use Rattle.words.specs.declared.instruction.Decoded.the-variants.{Decodes, Rejects}
@@ -114,3 +115,7 @@ module _ (m : Machine) (t : ℕ) (a b : Bool) (ea : a ≡ sized m) (eb : b ≡ f
   pub check-thread : not a ≡ false → not b ≡ false → 3 ≤ t → Refuses BadThread ≡ checkOf m t
   unfolding byTests
   check-thread h k l = by-tests true true false (not-false a h) (not-false b k) (le-ltb t 3 l)
+
+-- equal steps have equal numbers
+pub numbered : (x y : Step) → x ≡ y → (x ≡ y) × (outcomeNumbers (x .outcome) ≡ outcomeNumbers (y .outcome))
+numbered x y e = (e, ap (λ (z : Step). outcomeNumbers (z .outcome)) e)

@@ -1,3 +1,4 @@
 pub mod Step
 pub mod Alike
 pub mod Kept
+pub mod Unchanged

@@ -3,11 +3,13 @@ ghost use mathlib.Core.Path.{_≡_};
 ghost use mathlib.Core.Bool.{true};
 ghost use Prim.Native.Nat.{_<_};
 ghost use Rattle.machine.specs.Machine.{machine, stores};
+ghost use Rattle.machine.specs.Numbers.{outcomeNumbers};
 ghost use Rattle.machine.specs.Formed.{sized, formed, controlFormed};
 ghost use Rattle.words.specs.InRange.{InRange};
 ghost use Rattle.step.specs.Step.{stepped, passOf, gatedOf, offerOf, checkOf, stepOf};
 ghost use Rattle.step.specs.Alike.{OffersAlike};
 ghost use Rattle.step.specs.Kept.{KeepsFormed};
+ghost use Rattle.step.specs.Unchanged.{Unchanged};
 use control::gate::Gate;
 use machine::control::Control;
 use machine::refusal::Outcome;
@@ -180,6 +182,7 @@ pub fn step(
     word: u32,
 ) -> Stepped
     ensures { λ r. ⌜ stepped (r .outcome) (machine (r .control) (now (settings .exit)) (stores (now (gprs .exit)) (now (config .exit)) (now (dest .entry)) (now (marks .exit)) (now («src_a» .exit)) (now («src_b» .exit)))) ≡ stepOf (machine control (now (settings .entry)) (stores (now (gprs .entry)) (now (config .entry)) (now (dest .entry)) (now (marks .entry)) (now («src_a» .entry)) (now («src_b» .entry)))) thread word ⌝ }
+    ensures numbers { λ r. ⌜ outcomeNumbers (r .outcome) ≡ outcomeNumbers (stepOf (machine control (now (settings .entry)) (stores (now (gprs .entry)) (now (config .entry)) (now (dest .entry)) (now (marks .entry)) (now («src_a» .entry)) (now («src_b» .entry)))) thread word .outcome) ⌝ }
 {
     let k = check_call(
         control,
@@ -212,9 +215,10 @@ pub fn step(
     }
 }
 
-// The laws of a word that are no single function's: it keeps a well-formed machine well formed, and it goes alike on
-// machines that agree on control part and thread settings.
+// The laws of a word that are no single function's: it keeps a well-formed machine well formed, changes nothing unless it
+// passes, and goes alike on machines that agree on control part and thread settings.
 pub fn promises()
     ensures kept { λ _. ⌜ KeepsFormed ⌝ }
+    ensures unchanged { λ _. ⌜ Unchanged ⌝ }
     ensures alike { λ _. ⌜ OffersAlike ⌝ }
 {}

@@ -2,7 +2,6 @@
 ghost use Prim.Native.Nat.{_+_, _≤_, _<_};
 ghost use lib.ListN.{length};
 use crate::damage::damage_cell;
-use crate::damage::damaged_control;
 use crate::damage::lent_length;
 use crate::input::cases_end;
 use crate::input::word_at;
@@ -15,6 +14,7 @@ use machine::sizes::GPRS;
 use machine::sizes::SETTINGS;
 use machine::sizes::SOURCE_CELLS;
 use seeded::digest::digest;
+use seeded::limits::at_limit;
 use seeded::whole::fill_machine;
 
 // One case: the word on the machine, and the line. A part may be lent too short; the digest is always of the whole machine.
@@ -112,7 +112,7 @@ fn run_machine(seed: u32, cases: &[u8]) {
         &mut src_b,
     );
     let past = seed / 16777216 % 16;
-    let control = damaged_control(made, past);
+    let control = at_limit(made, past);
     damage_cell(&mut src_a, 2047, past, 10);
     damage_cell(&mut src_b, 0, past, 11);
     run_cases(

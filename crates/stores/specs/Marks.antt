@@ -7,6 +7,8 @@ use mathlib.Core.Logic.{_⊎_}
 use lib.Dec.{eqb}
 use lib.ListN.{set, getD}
 use Rattle.dest.specs.declared.flags.Flags.{Flags}
+use Rattle.dest.specs.declared.rows.View16Row.{View16Row}
+use Rattle.dest.specs.declared.rows.View32Row.{View32Row}
 use Rattle.dest.specs.Rows.{view16, view32}
 use Rattle.dest.specs.Flags.{flagWord, flagsOf}
 use Rattle.dest.specs.Maps.{storage16, high32, low32}
@@ -21,11 +23,17 @@ use Rattle.stores.specs.Places.{configPlace}
 abbrev pub flagsIn : ℕ → List ℕ → Flags
 flagsIn bank config = flagsOf (getD config (configPlace bank flagWord) 0)
 
--- a view row cleared: of the 32-bit view, both its storage rows
+-- a row of the 16-bit view cleared
+abbrev pub clearRow16 : Flags → View16Row → List Bool → List Bool
+clearRow16 f row marks = set marks (storage16 f row .0) false
+
+-- a row of the 32-bit view cleared: both its storage rows
+abbrev pub clearRow32 : Flags → View32Row → List Bool → List Bool
+clearRow32 f row marks = set (set marks (high32 f row .0) false) (low32 f row .0) false
+
+-- the row of a number in the view that the word names
 unfoldable pub clearRow : Bool → Flags → ℕ → List Bool → List Bool
-clearRow wide f row marks =
-    cond wide (set (set marks (high32 f (view32 row) .0) false) (low32 f (view32 row) .0) false)
-    (set marks (storage16 f (view16 row) .0) false)
+clearRow wide f row marks = cond wide (clearRow32 f (view32 row) marks) (clearRow16 f (view16 row) marks)
 
 -- so many view rows cleared, from the first on
 unfoldable pub clearRows : Bool → Flags → ℕ → ℕ → List Bool → List Bool

@@ -5,7 +5,8 @@ ghost use mathlib.Core.Bool.{false};
 ghost use lib.ListN.{length, replicate};
 ghost use Rattle.words.specs.MatrixWords.{viewRows};
 ghost use Rattle.words.specs.InRange.{PlaceInView};
-ghost use Rattle.stores.specs.Marks.{clearRow, clearRows, flagsIn, firstRow, rowCount, RowsCleared, afterZeroAcc};
+ghost use Rattle.dest.specs.Rows.{rows16};
+ghost use Rattle.stores.specs.Marks.{clearRow16, clearRow32, clearRow, clearRows, flagsIn, firstRow, rowCount, RowsCleared, afterZeroAcc};
 use crate::places::config_place;
 use dest::flags::FLAG_WORD;
 use dest::flags::Flags;
@@ -51,19 +52,35 @@ fn row_count(mode: u8, wide: bool) -> u16
     }
 }
 
-// One view row cleared: of the 32-bit view, both its storage rows.
+// A row of the 16-bit view cleared.
+fn clear_row16(marks: &mut [bool], flags: Flags, row: View16Row)
+    requires { ⌜ (length (now marks) ≡ 1024) × (row .0 < rows16) ⌝ }
+    ensures { λ _. ⌜ now (marks .exit) ≡ clearRow16 flags row (now (marks .entry)) ⌝ }
+{
+    let there = storage_row(flags, row);
+    marks[there.0 as usize] = false;
+}
+
+// A row of the 32-bit view cleared: both its storage rows.
+fn clear_row32(marks: &mut [bool], flags: Flags, row: View32Row)
+    requires { ⌜ length (now marks) ≡ 1024 ⌝ }
+    ensures { λ _. ⌜ now (marks .exit) ≡ clearRow32 flags row (now (marks .entry)) ⌝ }
+{
+    let high = high_row(flags, row);
+    let low = low_row(flags, row);
+    marks[high.0 as usize] = false;
+    marks[low.0 as usize] = false;
+}
+
+// The view row of a number cleared: here alone ZEROACC's number becomes a row of the view that its word names.
 fn clear_row(marks: &mut [bool], flags: Flags, wide: bool, row: u16)
     requires { ⌜ (length (now marks) ≡ 1024) × (row < viewRows wide) ⌝ }
     ensures { λ _. ⌜ now (marks .exit) ≡ clearRow wide flags row (now (marks .entry)) ⌝ }
 {
     if wide {
-        let high = high_row(flags, View32Row(row));
-        let low = low_row(flags, View32Row(row));
-        marks[high.0 as usize] = false;
-        marks[low.0 as usize] = false;
+        clear_row32(marks, flags, View32Row(row));
     } else {
-        let there = storage_row(flags, View16Row(row));
-        marks[there.0 as usize] = false;
+        clear_row16(marks, flags, View16Row(row));
     }
 }
 

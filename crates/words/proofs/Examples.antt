@@ -12,7 +12,7 @@ use Rattle.machine.specs.Units.{gpr, halfRegister}
 use Rattle.words.specs.Decode.{decodeOf}
 
 -- M1
-low-half-of-four : decodeOf 0x45123408 ≡ Decodes (Scalar (SetDmaReg (halfRegister 8) 0x1234))
+pub low-half-of-four : decodeOf 0x45123408 ≡ Decodes (Scalar (SetDmaReg (halfRegister 8) 0x1234))
 unfolding decodeOf
 low-half-of-four = refl
 
@@ -26,31 +26,31 @@ unfolding decodeOf
 signal-mode = refl
 
 -- M2
-add-constant : decodeOf 0x58805044 ≡ Decodes (Scalar (AddDmaReg (gpr 5) (gpr 4) (Constant 1)))
+pub add-constant : decodeOf 0x58805044 ≡ Decodes (Scalar (AddDmaReg (gpr 5) (gpr 4) (Constant 1)))
 unfolding decodeOf
 add-constant = refl
 
 -- M3
-multiply-registers : decodeOf 0x5A006144 ≡ Decodes (Scalar (MulDmaReg (gpr 6) (gpr 4) (Register (gpr 5))))
+pub multiply-registers : decodeOf 0x5A006144 ≡ Decodes (Scalar (MulDmaReg (gpr 6) (gpr 4) (Register (gpr 5))))
 unfolding decodeOf
 multiply-registers = refl
 
 -- M4
-second-byte : decodeOf 0xB4F0AB0A ≡ Decodes (Config (RmwCib 1 0xF0 0xAB 0x0A))
+pub second-byte : decodeOf 0xB4F0AB0A ≡ Decodes (Config (RmwCib 1 0xF0 0xAB 0x0A))
 unfolding decodeOf
 second-byte = refl
 
 -- M5
-last-index : decodeOf 0xB00000FF ≡ Decodes (Config (WrCfg (gpr 0) false 255))
+pub last-index : decodeOf 0xB00000FF ≡ Decodes (Config (WrCfg (gpr 0) false 255))
 unfolding decodeOf
 last-index = refl
 
-past-last-index : decodeOf 0xB0000100 ≡ Rejects BadField
+pub past-last-index : decodeOf 0xB0000100 ≡ Rejects BadField
 unfolding decodeOf
 past-last-index = refl
 
 -- M6
-four-words : decodeOf 0xB0078009 ≡ Decodes (Config (WrCfg (gpr 7) true 9))
+pub four-words : decodeOf 0xB0078009 ≡ Decodes (Config (WrCfg (gpr 7) true 9))
 unfolding decodeOf
 four-words = refl
 

@@ -18,7 +18,7 @@ slice-aggregate-run-7 : tie.Need-slice-aggregate-run-7
 slice-aggregate-run-7 c = sym (sized-facts (machineOf (c .before .before .before .before .before .before .before .before .before .before .before .before .before .before .before .fresh .result)) (and-left (sized (machineOf (c .before .before .before .before .before .before .before .before .before .before .before .before .before .before .before .fresh .result))) (formed (machineOf (c .before .before .before .before .before .before .before .before .before .before .before .before .before .before .before .fresh .result))) (c .before .before .before .before .before .before .before .before .before .before .before .before .before .before .before .fresh .ensures .1 .1)) .srcB)
 
 returns : tie.Need-returns
-returns c = let p = parts _ _ _ _ _ _ _ (c .before .before .before .before .before .before .before .before .before .before .before .before .before .before .before .before .before .before .before .before .before .before .before .fresh .ensures .0) (c .before .before .before .before .before .before .before .run .ensures) in (p .answer, (p .turns, p .cursor))
+returns c = let p = parts _ _ _ _ _ _ _ (c .before .before .before .before .before .before .before .before .before .before .before .before .before .before .before .before .before .before .before .before .before .before .before .fresh .ensures .0) (c .before .before .before .before .before .before .before .run .ensures .0) in (p .answer, (p .turns, p .cursor))
 
 pub run-fresh-spec : {M : Type 1} → statement M
 run-fresh-spec =

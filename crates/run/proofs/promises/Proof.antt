@@ -1,5 +1,6 @@
 use Rattle.run.proofs.Stuck.{stuck-for-good}
 use Rattle.run.proofs.Isolation.{isolated}
+use Rattle.run.proofs.Kept.{run-keeps}
 use Rattle.run.proofs.promises.Statement.{statement}
 use Rattle.run.proofs.promises.Tie as tie
 use Rattle.run.proofs.promises.Reads as reads
@@ -7,7 +8,7 @@ use Rattle.run.proofs.promises.Lts as lts
 
 -- src/lib.rt:89:1
 returns : tie.Need-returns
-returns c = (isolated, stuck-for-good)
+returns c = (isolated, (run-keeps, stuck-for-good))
 
 pub promises-spec : {M : Type 1} → statement M
 promises-spec = tie.close (tie.spec returns)

@@ -1,4 +1,4 @@
-use Rattle.run.proofs.Calls.{call-ready, call-refused, call-runs}
+use Rattle.run.proofs.Calls.{call-ready, call-refused, call-runs, numbered}
 use Rattle.run.specs.Run.{summaryOf}
 use mathlib.Core.Path.{sym, ap, _∙_}
 use borrow.Author.Needs.{needs}
@@ -51,7 +51,7 @@ same-length-6 c = search needs
 
 -- src/lib.rt:31:1
 returns : tie.Need-returns
-returns c = ap summaryOf (call-refused _ _ _ _ (c .before .before .before .check-call .result) (c .before .before .before .check-call .ensures) _ (c .before .h .given .1))
+returns c = numbered _ _ (ap summaryOf (call-refused _ _ _ _ (c .before .before .before .check-call .result) (c .before .before .before .check-call .ensures) _ (c .before .h .given .1)))
 
 -- src/lib.rt:31:1
 same-length-7 : tie.Need-same-length-7
@@ -79,7 +79,7 @@ same-length-12 c = search needs
 
 -- src/lib.rt:31:1
 returns-2 : tie.Need-returns-2
-returns-2 c = c .before .before .before .before .before .before .before .before .before .before .before .before .take-turns .ensures ∙ ap summaryOf (call-runs _ _ _ _ (c .before .before .before .before .before .before .before .before .before .before .before .before .before .before .before .before .before .before .before .before .before .check-call .result) (c .before .before .before .before .before .before .before .before .before .before .before .before .before .before .before .before .before .before .before .before .before .check-call .ensures) (c .before .before .before .before .before .before .before .before .before .before .before .before .before .before .before .before .before .before .before .enum-told .given .1))
+returns-2 c = numbered _ _ (c .before .before .before .before .before .before .before .before .before .before .before .before .take-turns .ensures ∙ ap summaryOf (call-runs _ _ _ _ (c .before .before .before .before .before .before .before .before .before .before .before .before .before .before .before .before .before .before .before .before .before .check-call .result) (c .before .before .before .before .before .before .before .before .before .before .before .before .before .before .before .before .before .before .before .before .before .check-call .ensures) (c .before .before .before .before .before .before .before .before .before .before .before .before .before .before .before .before .before .before .before .enum-told .given .1)))
 
 pub run-spec : {M : Type 1} → statement M
 run-spec =

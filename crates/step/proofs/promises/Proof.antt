@@ -1,10 +1,11 @@
 use Rattle.step.proofs.Kept.{keeps-formed}
+use Rattle.step.proofs.Unchanged.{unchanged}
 use Rattle.step.proofs.Alike.{offers-alike}
 use Rattle.step.proofs.promises.Statement.{statement}
 use Rattle.step.proofs.promises.Tie as tie
 
 returns : tie.Need-returns
-returns c = (keeps-formed, offers-alike)
+returns c = (keeps-formed, (unchanged, offers-alike))
 
 pub promises-spec : {M : Type 1} → statement M
 promises-spec = tie.close (tie.spec returns)

@@ -1,0 +1,55 @@
+-- When a word passes, and what a call of `step` then is.
+use Prim.Native.Nat.{ℕ, _<_}
+use mathlib.Core.Path.{_≡_, refl, sym, ap, _∙_}
+use mathlib.Core.Bool.{Bool, true, false, cond, not, _&&_}
+use Rattle.bits.specs.Field.{flag}
+use Rattle.bits.proofs.Choices.{and-left, and-right}
+use Rattle.machine.specs.declared.refusal.Outcome.the-variants.{Refused}
+use Rattle.machine.specs.declared.refusal.Refusal.{Refusal}
+use Rattle.machine.specs.declared.refusal.StallCause.the-variants.{WaitHolds}
+use Rattle.machine.specs.Control.{waitOf}
+use Rattle.machine.specs.Formed.{sized, formed, wellFormed}
+use Rattle.machine.specs.Machine.{Machine}
+use Rattle.words.specs.declared.instruction.ConfigWord.{ConfigWord}
+use Rattle.words.specs.declared.instruction.ScalarWord.{ScalarWord}
+use Rattle.words.specs.declared.instruction.Instruction.{Instruction}
+use Rattle.words.specs.declared.instruction.Instruction.the-variants.{Scalar, Config}
+use Rattle.words.specs.declared.instruction.Decoded.the-variants.{Decodes, Rejects}
+use Rattle.words.specs.Decode.{decodeOf}
+use Rattle.control.specs.declared.gate.Gate.{Gate}
+use Rattle.control.specs.declared.gate.Gate.the-variants.{Open, Closed}
+use Rattle.control.specs.Waits.{holdsNow}
+use Rattle.control.specs.Gate.{blockOf, gateOf}
+use Rattle.step.specs.declared.CallCheck.the-variants.{Fine}
+use Rattle.step.specs.Step.{stepped, passOf, checkOf, stepOf}
+use Rattle.step.proofs.Ways.{check-fine, call-offered, word-decoded, word-refused, gate-open}
+use Rattle.acceptance.specs.Worked.{Ready}
+
+fine : (m : Machine) (t : ℕ) → wellFormed m ≡ true → t < 3 → Fine ≡ checkOf m t
+fine m t e h =
+    let s = and-left (sized m) (formed m) e in
+    let f = and-right (sized m) (formed m) e in
+    check-fine m t (sized m) (formed m) refl refl (ap (λ (b : Bool). not b) s) (ap (λ (b : Bool). not b) f) h
+
+passing : (m : Machine) (t w : ℕ) (i : Instruction) → wellFormed m ≡ true → t < 3 → decodeOf w ≡ Decodes i →
+    gateOf (m .control) t i ≡ Open → stepOf m t w ≡ passOf m t i
+passing m t w i e h d g =
+    let gated = gate-open m t i (gateOf (m .control) t i) refl (passOf m t i) g refl in
+    let offered = word-decoded m t w (decodeOf w) refl i (passOf m t i) d gated in
+    sym (call-offered m t (checkOf m t) refl w (passOf m t i) (sym (fine m t e h)) offered)
+
+pub refusing : (m : Machine) (t w : ℕ) (r : Refusal) → wellFormed m ≡ true → t < 3 → decodeOf w ≡ Rejects r →
+    stepOf m t w ≡ stepped (Refused r) m
+refusing m t w r e h d =
+    let offered = word-refused m t w (decodeOf w) refl r d in
+    sym (call-offered m t (checkOf m t) refl w (stepped (Refused r) m) (sym (fine m t e h)) offered)
+
+pub scalar-passes : (m : Machine) (t w : ℕ) (s : ScalarWord) → Ready 5 m t → decodeOf w ≡ Decodes (Scalar s) → stepOf m t w ≡ passOf m t (Scalar s)
+unfolding gateOf
+scalar-passes m t w s r d =
+    passing m t w (Scalar s) (r .formed) (r .thread) d (ap (λ (b : Bool). cond b (Closed WaitHolds) Open) (r .unstalled))
+
+pub config-passes : (m : Machine) (t w : ℕ) (s : ConfigWord) → Ready 7 m t → decodeOf w ≡ Decodes (Config s) → stepOf m t w ≡ passOf m t (Config s)
+unfolding gateOf
+config-passes m t w s r d =
+    passing m t w (Config s) (r .formed) (r .thread) d (ap (λ (b : Bool). cond b (Closed WaitHolds) Open) (r .unstalled))

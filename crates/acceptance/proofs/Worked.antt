@@ -1,0 +1,153 @@
+-- M1 to M11: each word is decoded and done by computation, on any machine.
+use Prim.Native.Nat.{ℕ, _+_, _*_, _%_, _^_, _≤_, _<_}
+use mathlib.Core.Path.{_≡_, refl, sym, ap, _∙_}
+use mathlib.Core.Bool.{Bool, true, false, _&&_, _||_}
+use mathlib.Core.List.{List, [], _∷_}
+use native.Mathlib.Omega.{arith}
+use lib.Dec.{ltb}
+use lib.ListN.{length, set, getD}
+use borrow.Author.Tests.{le-ltb, le-leb}
+use Rattle.bits.specs.Field.{field, withByte, withLow}
+use Rattle.bits.specs.Overwrite.{over}
+use Rattle.machine.specs.declared.units.GprNumber.{GprNumber}
+use Rattle.machine.specs.declared.refusal.Outcome.the-variants.{Refused}
+use Rattle.machine.specs.declared.refusal.Refusal.the-variants.{BadField}
+use Rattle.machine.specs.Formed.{wellFormed}
+use Rattle.machine.specs.Numbers.{numberOf}
+use Rattle.machine.specs.Sizes.{configCount, destCount, markCount}
+use Rattle.machine.specs.Machine.{Machine}
+use Rattle.machine.specs.Units.{gpr, halfRegister}
+use Rattle.words.specs.declared.instruction.Operand.the-variants.{Constant, Register}
+use Rattle.words.specs.declared.instruction.ScalarWord.{ScalarWord}
+use Rattle.words.specs.declared.instruction.ScalarWord.the-variants.{SetDmaReg, AddDmaReg, MulDmaReg}
+use Rattle.words.specs.declared.instruction.ConfigWord.{ConfigWord}
+use Rattle.words.specs.declared.instruction.ConfigWord.the-variants.{WrCfg, RmwCib}
+use Rattle.words.specs.declared.instruction.Instruction.the-variants.{Scalar, Config}
+use Rattle.words.specs.declared.instruction.Decoded.the-variants.{Decodes, Rejects}
+use Rattle.words.specs.Decode.{decodeOf}
+use Rattle.words.proofs.Examples.{low-half-of-four, add-constant, multiply-registers, second-byte, last-index, past-last-index, four-words}
+use Rattle.control.specs.After.{controlAfter}
+use Rattle.stores.specs.After.{settingsAfter, storesAfter}
+use Rattle.stores.specs.Gprs.{gprsAfter, scalarGprs}
+use Rattle.stores.specs.Config.{configAfter, configWords, withMerged}
+use Rattle.stores.specs.Copies.{copied}
+use Rattle.stores.specs.Marks.{marksAfter}
+use Rattle.stores.specs.Settings.{bankOf}
+use Rattle.stores.specs.Sources.{srcAAfter, srcBAfter}
+use Rattle.step.specs.Step.{passOf, machineAfter, stepped, stepOf}
+use Rattle.dest.proofs.Examples.{worked}
+use Rattle.bench.specs.Answers.{refused}
+use Rattle.bench.specs.Answers as bench
+use Rattle.bench.specs.DestRows.{DestStore, bankCheck, readRow32Of}
+use Rattle.expander.specs.declared.Carried.{Carried}
+use Rattle.expander.specs.Stream.{Emission, emission, streamOf, freshCarried}
+use Rattle.expander.specs.Call.{accepted, call, badLength, badRounds, shortOutput, doneWith, expandOf, anyTemplate1}
+use Rattle.expander.proofs.Examples.{examples}
+use Rattle.acceptance.specs.Worked.{Ready, Worked, leavesGprs, leavesConfig, place, gprIn, wordPlace, wordIn}
+use Rattle.acceptance.proofs.Passing.{refusing, scalar-passes, config-passes}
+
+-- a passed word of the scalar unit writes GPRs alone; of the config unit, WRCFG and RMWCIB write Config words alone
+scalar-leaves : (m : Machine) (t : ℕ) (s : ScalarWord) → passOf m t (Scalar s) ≡ leavesGprs m t (scalarGprs s t (m .kept .gprs))
+unfolding machineAfter controlAfter settingsAfter storesAfter gprsAfter configAfter marksAfter srcAAfter srcBAfter
+scalar-leaves m t s = refl
+
+copy-leaves : (m : Machine) (t : ℕ) (g : GprNumber) (wide : Bool) (index : ℕ) →
+    passOf m t (Config (WrCfg g wide index)) ≡ leavesConfig m t (configWords (WrCfg g wide index) t (bankOf (m .settings) t) (m .kept .gprs) (m .kept .config))
+unfolding machineAfter controlAfter settingsAfter storesAfter gprsAfter configAfter marksAfter srcAAfter srcBAfter
+copy-leaves m t g wide index = refl
+
+merge-leaves : (m : Machine) (t byte mask value index : ℕ) →
+    passOf m t (Config (RmwCib byte mask value index)) ≡ leavesConfig m t (configWords (RmwCib byte mask value index) t (bankOf (m .settings) t) (m .kept .gprs) (m .kept .config))
+unfolding machineAfter controlAfter settingsAfter storesAfter gprsAfter configAfter marksAfter srcAAfter srcBAfter
+merge-leaves m t byte mask value index = refl
+
+does-scalar : (m : Machine) (t w : ℕ) (s : ScalarWord) → Ready 5 m t → decodeOf w ≡ Decodes (Scalar s) →
+    stepOf m t w ≡ leavesGprs m t (scalarGprs s t (m .kept .gprs))
+does-scalar m t w s r d = scalar-passes m t w s r d ∙ scalar-leaves m t s
+
+does-copy : (m : Machine) (t w : ℕ) (g : GprNumber) (wide : Bool) (index : ℕ) → Ready 7 m t → decodeOf w ≡ Decodes (Config (WrCfg g wide index)) →
+    stepOf m t w ≡ leavesConfig m t (configWords (WrCfg g wide index) t (bankOf (m .settings) t) (m .kept .gprs) (m .kept .config))
+does-copy m t w g wide index r d = config-passes m t w (WrCfg g wide index) r d ∙ copy-leaves m t g wide index
+
+sets-half : (m : Machine) (t : ℕ) → Ready 5 m t → stepOf m t 0x45123408 ≡ leavesGprs m t (set (m .kept .gprs) (place t 4) (withLow 0x1234 (gprIn m t 4)))
+sets-half m t r = does-scalar m t 0x45123408 (SetDmaReg (halfRegister 8) 0x1234) r low-half-of-four
+
+adds : (m : Machine) (t : ℕ) → Ready 5 m t → gprIn m t 4 ≡ 0xFFFFFFFF → stepOf m t 0x58805044 ≡ leavesGprs m t (set (m .kept .gprs) (place t 5) 0)
+adds m t r e =
+    does-scalar m t 0x58805044 (AddDmaReg (gpr 5) (gpr 4) (Constant 1)) r add-constant
+    ∙ ap (λ (x : ℕ). leavesGprs m t (set (m .kept .gprs) (place t 5) ((x + 1) % 2 ^ 32))) e
+
+multiplies : (m : Machine) (t : ℕ) → Ready 5 m t → gprIn m t 4 ≡ 0x00010003 → gprIn m t 5 ≡ 0xFFFF →
+    stepOf m t 0x5A006144 ≡ leavesGprs m t (set (m .kept .gprs) (place t 6) 196605)
+multiplies m t r e f =
+    let left : ℕ → _ = λ (x : ℕ). leavesGprs m t (set (m .kept .gprs) (place t 6) (field 0 16 x * field 0 16 (gprIn m t 5))) in
+    let right : ℕ → _ = λ (x : ℕ). leavesGprs m t (set (m .kept .gprs) (place t 6) (field 0 16 0x00010003 * field 0 16 x)) in
+    does-scalar m t 0x5A006144 (MulDmaReg (gpr 6) (gpr 4) (Register (gpr 5))) r multiply-registers ∙ ap left e ∙ ap right f
+
+merges : (m : Machine) (t : ℕ) → Ready 7 m t → wordIn m t 10 ≡ 0x11223344 → stepOf m t 0xB4F0AB0A ≡ leavesConfig m t (set (m .kept .config) (wordPlace m t 10) 0x1122A344)
+unfolding withByte
+merges m t r e =
+    config-passes m t 0xB4F0AB0A (RmwCib 1 0xF0 0xAB 10) r second-byte ∙ merge-leaves m t 1 0xF0 0xAB 10
+    ∙ ap (λ (x : ℕ). leavesConfig m t (set (m .kept .config) (wordPlace m t 10) (withMerged 1 0xF0 0xAB x))) e
+
+last-word : (m : Machine) (t : ℕ) → Ready 7 m t → stepOf m t 0xB00000FF ≡ leavesConfig m t (set (m .kept .config) (wordPlace m t 255) (gprIn m t 0))
+last-word m t r = does-copy m t 0xB00000FF (gpr 0) false 255 r last-index
+
+past-last : (m : Machine) (t : ℕ) → wellFormed m ≡ true → t < 3 → (stepOf m t 0xB0000100 ≡ stepped (Refused BadField) m) × (numberOf BadField ≡ 3)
+past-last m t e h = (refusing m t 0xB0000100 BadField e h past-last-index, refl)
+
+copies-four : (m : Machine) (t : ℕ) → Ready 7 m t →
+    stepOf m t 0xB0078009 ≡
+    leavesConfig m t
+    (set (set (set (set (m .kept .config) (wordPlace m t 8) (gprIn m t 4)) (wordPlace m t 9) (gprIn m t 5)) (wordPlace m t 10) (gprIn m t 6)) (wordPlace m t 11) (gprIn m t 7))
+unfolding copied
+copies-four m t r =
+    let done = does-copy m t 0xB0078009 (gpr 7) true 9 r four-words in
+    rw (second (t * 64) 4, third (t * 64) 4, fourth (t * 64) 4, second (bankOf (m .settings) t * 256) 8, third (bankOf (m .settings) t * 256) 8, fourth (bankOf (m .settings) t * 256) 8) done
+  where
+    second : (a n : ℕ) → a + (n + 1) ≡ a + n + 1
+    second a n = omega arith
+
+    third : (a n : ℕ) → a + (n + 2) ≡ a + n + 1 + 1
+    third a n = omega arith
+
+    fourth : (a n : ℕ) → a + (n + 3) ≡ a + n + 1 + 1 + 1
+    fourth a n = omega arith
+
+-- a call whose lengths and rounds are in order and whose output has room
+expanded : (m : List ℕ) (c : Carried) (l out : List ℕ) (e : Emission) → streamOf m c l ≡ e → badLength m l ≡ false → badRounds m l ≡ false →
+    shortOutput out (length (e .words)) ≡ false → expandOf m c l out ≡ doneWith e out
+unfolding expandOf
+expanded m c l out e s p q r = rw (p, q, s, r)
+
+room : (out : List ℕ) (n : ℕ) → n ≤ length out → n ≤ 65536 → shortOutput out n ≡ false
+room out n h k = rw (le-ltb (length out) n h, le-ltb 65536 n k)
+
+and-no : (b : Bool) → (b && false) ≡ false
+and-no true = refl
+and-no false = refl
+
+mask-template : (m0 m2 m3 m4 m5 m6 m7 m8 : ℕ) (out : List ℕ) → 6 ≤ length out →
+    expandOf (m0 ∷ 1 ∷ m2 ∷ m3 ∷ m4 ∷ m5 ∷ m6 ∷ m7 ∷ m8 ∷ []) freshCarried (0x01020002 ∷ []) out ≡
+    call (accepted 6) freshCarried (over out 0 (m3 ∷ m2 ∷ m7 ∷ m8 ∷ m3 ∷ m2 ∷ []))
+unfolding anyTemplate1
+mask-template m0 m2 m3 m4 m5 m6 m7 m8 out h =
+    expanded (m0 ∷ 1 ∷ m2 ∷ m3 ∷ m4 ∷ m5 ∷ m6 ∷ m7 ∷ m8 ∷ []) freshCarried (0x01020002 ∷ []) out (emission (m3 ∷ m2 ∷ m7 ∷ m8 ∷ m3 ∷ m2 ∷ []) freshCarried)
+    (examples .M10 m0 m2 m3 m4 m5 m6 m7 m8) refl (and-no (ltb 127 m0 || false)) (room out 6 h (omega arith))
+
+round-template : (m2 m3 m4 m5 m6 m7 m8 : ℕ) (c : Carried) (out : List ℕ) → 14 ≤ length out →
+    expandOf (2 ∷ 2 ∷ m2 ∷ m3 ∷ m4 ∷ m5 ∷ m6 ∷ m7 ∷ m8 ∷ []) c (0x01800000 ∷ []) out ≡
+    call (accepted 14) c (over out 0 (m2 ∷ m5 ∷ m6 ∷ m5 ∷ m8 ∷ m3 ∷ m4 ∷ m2 ∷ m5 ∷ m6 ∷ m5 ∷ m7 ∷ m3 ∷ m4 ∷ []))
+unfolding anyTemplate1
+round-template m2 m3 m4 m5 m6 m7 m8 c out h =
+    expanded (2 ∷ 2 ∷ m2 ∷ m3 ∷ m4 ∷ m5 ∷ m6 ∷ m7 ∷ m8 ∷ []) c (0x01800000 ∷ []) out (emission (m2 ∷ m5 ∷ m6 ∷ m5 ∷ m8 ∷ m3 ∷ m4 ∷ m2 ∷ m5 ∷ m6 ∷ m5 ∷ m7 ∷ m3 ∷ m4 ∷ []) c)
+    (examples .M11 m2 m3 m4 m5 m6 m7 m8 c) refl refl (room out 14 h (omega arith))
+
+past-view : (config : List ℕ) (s : DestStore) (bank : ℕ) (out : List ℕ) →
+    length config ≡ configCount → length (s .dest) ≡ destCount → length (s .marks) ≡ markCount → bank ≤ 1 →
+    readRow32Of config s bank 512 out ≡ bench.call (refused 11 []) out
+unfolding readRow32Of bankCheck
+past-view config s bank out p q r h = rw (p, q, r, le-leb bank 1 h)
+
+pub all-worked : Worked
+all-worked = record { m1 = sets-half; m2 = adds; m3 = multiplies; m4 = merges; m5-passes = last-word; m5-refused = past-last; m6 = copies-four; dest = worked; m8-refused = past-view; m10 = mask-template; m11 = round-template }

@@ -1,0 +1,33 @@
+// What the customer is promised and no single function can state, in one place.
+ghost use Rattle.step.specs.Kept.{KeepsFormed};
+ghost use Rattle.step.specs.Unchanged.{Unchanged};
+ghost use Rattle.run.specs.Isolation.{Isolated};
+ghost use Rattle.run.specs.Kept.{RunKeeps};
+ghost use Rattle.run.specs.StuckForGood.{StuckForGood};
+ghost use Rattle.dest.specs.Cover.{ViewsCover};
+ghost use Rattle.bench.specs.Promises.{GprPromises, DestPromises, SourcePromises};
+ghost use Rattle.expander.specs.Promises.{CutAnywhere};
+ghost use Rattle.acceptance.specs.Worked.{Worked};
+
+// Each clause is a theorem over the definitions that the contracts of the entries cite.
+pub fn promises()
+    // condition 3
+    ensures isolated { λ _. ⌜ Isolated ⌝ }
+    // M1 to M11 of document 01
+    ensures worked { λ _. ⌜ Worked ⌝ }
+    // a word that stalls or is refused changes nothing; a word keeps a well-formed machine well formed
+    ensures unchanged { λ _. ⌜ Unchanged ⌝ }
+    ensures kept { λ _. ⌜ KeepsFormed ⌝ }
+    // a turn without a passed word and a refused call change nothing; a run keeps a well-formed machine well formed
+    ensures keeps { λ _. ⌜ RunKeeps ⌝ }
+    // a stuck run is stuck for good
+    ensures stuck { λ _. ⌜ StuckForGood ⌝ }
+    // each Dest view covers every storage row exactly once, in every setting of the flags
+    ensures covers { λ _. ⌜ ViewsCover ⌝ }
+    // what the bench writes is read back, and every other register and row reads as before
+    ensures gprs { λ _. ⌜ GprPromises ⌝ }
+    ensures rows { λ _. ⌜ DestPromises ⌝ }
+    ensures sources { λ _. ⌜ SourcePromises ⌝ }
+    // a stream expands alike however it is cut
+    ensures cut { λ _. ⌜ CutAnywhere ⌝ }
+{}

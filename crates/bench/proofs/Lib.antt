@@ -1,0 +1,12 @@
+pub mod Writing
+pub mod Halves
+pub mod Checks
+pub mod Facts
+pub mod Registers
+pub mod Views
+pub mod Rows
+pub mod StoredRows
+pub mod ViewBack
+pub mod GprBack
+pub mod DestBack
+pub mod SourceBack

@@ -1,0 +1,31 @@
+-- What the functions tell that look for the place of a call.
+use Prim.Native.Nat.{ℕ}
+use Rattle.dest.specs.declared.flags.Flags.{Flags}
+use Rattle.dest.specs.declared.rows.StorageRow.{StorageRow}
+use Rattle.machine.specs.Numbers.{numberOf, valuesOf}
+use Rattle.bench.specs.Answers.{Told, accepted, refused}
+use Rattle.bench.specs.DestRows.{HalfRows}
+use Rattle.bench.specs.declared.gprs.GprFound.{GprFound}
+use Rattle.bench.specs.declared.gprs.GprFound.the-variants.{GprAt, NoGpr}
+use Rattle.bench.specs.declared.places.Setting.{Setting}
+use Rattle.bench.specs.declared.places.Setting.the-variants.{Set, NotSet}
+use Rattle.bench.specs.declared.places.Place16.{Place16}
+use Rattle.bench.specs.declared.places.Place16.the-variants.{At16, Not16}
+use Rattle.bench.specs.declared.places.Place32.{Place32}
+use Rattle.bench.specs.declared.places.Place32.the-variants.{At32, Not32}
+
+abbrev pub toldPlace : GprFound → Told ℕ
+toldPlace (GprAt at) = accepted at
+toldPlace (NoGpr r) = refused (numberOf r) (valuesOf r)
+
+abbrev pub toldFlags : Setting → Told Flags
+toldFlags (Set f) = accepted f
+toldFlags (NotSet r) = refused (numberOf r) (valuesOf r)
+
+abbrev pub toldRow : Place16 → Told StorageRow
+toldRow (At16 q) = accepted q
+toldRow (Not16 r) = refused (numberOf r) (valuesOf r)
+
+abbrev pub toldRows : Place32 → Told HalfRows
+toldRows (At32 high low) = accepted (record { high = high; low = low })
+toldRows (Not32 r) = refused (numberOf r) (valuesOf r)
