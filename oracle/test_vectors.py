@@ -2,18 +2,25 @@
 
 import io
 import os
+import struct
 import subprocess
 import sys
 import tempfile
 import unittest
+from collections import Counter
 from contextlib import redirect_stderr, redirect_stdout
 from pathlib import Path
 from types import SimpleNamespace
 from unittest import mock
 
+import assemble as asm
 import cases_emulate
+import cases_run
 import vectors
+from machine import LENT
 from program import emulate
+from run import Cursor
+from seeded import Draws
 
 
 def module(files):
@@ -79,7 +86,83 @@ class Deterministic(unittest.TestCase):
 class EmulateCases(unittest.TestCase):
     def test_case_p(self):
         files = cases_emulate.files()
-        self.assertEqual(files['crates/emulate/stdout'], emulate(files['crates/emulate/stdin']))
+        self.assertEqual(files['crates/emulate/stdin'].hex(' '),
+                         '04 00 00 00 20 00 08 34 12 45 04 00 00 00 21 00 00 00 00 16 '
+                         '00 00 00 00 22 00 04 00 00 00 23 00 64 00 00 00')
+        self.assertEqual(files['crates/emulate/stdout'], b'end stuck\nturns 4\nt0 1/1\nt1 0/1\nt2 0/0\n')
+
+    def test_named_runs_end_as_they_are_called(self):
+        for name, case in cases_emulate.RUNS.items():
+            end = {'p': 'stuck', 'lifted': 'finished', 'mutex': 'finished'}.get(name.split('_')[0], name.split('_')[0])
+            if name == 'finished_at_budget':
+                self.assertIn(b'turns 3\n', emulate(asm.emulate_input(*case)))
+            self.assertEqual(emulate(asm.emulate_input(*case)).split()[1].decode(), end, name)
+        for name, data in cases_emulate.BAD.items():
+            self.assertTrue(emulate(data).startswith(b'bad record at '), name)
+
+    def test_inputs(self):
+        inputs = cases_emulate.inputs()
+        answers = Counter(b' '.join(emulate(data).split()[:2]) for data in inputs)
+        self.assertGreaterEqual(len(cases_emulate.damaged(Draws(1))), 5000)
+        self.assertGreaterEqual(answers[b'bad record'], 3500)
+        for end in (b'end finished', b'end stuck', b'end budget', b'end refused'):
+            self.assertGreaterEqual(answers[end], 100, end)
+        self.assertLess(max(map(len, inputs)), 12317)
+
+
+class RunCases(unittest.TestCase):
+    def stored(self, name):
+        return (vectors.TOP / cases_run.FOLDER / name).read_bytes()
+
+    def test_stored_runs(self):
+        lines = [line.split() for line in self.stored('stdout').decode().splitlines()]
+        self.assertEqual(len(lines), len(cases_run.cases()))
+        self.assertGreaterEqual(len(lines), 2000)
+        ends = Counter(' '.join(line[:line.index('turns')]) for line in lines)
+        for end in ('finished', 'stuck', 'budget', 'refused 2', 'refused 3',
+                    'rejected 4', 'rejected 10', 'rejected 5', 'rejected 6'):
+            self.assertGreaterEqual(ends.pop(end), 10, end)
+        self.assertEqual(ends, {})
+        self.assertGreaterEqual(sum(int(line[line.index('turns') + 1]) > 100 for line in lines), 400)
+
+    def test_kernels_wait_for_each_other(self):
+        causes = Counter()
+        for case in cases_run.kernels(Draws(5), 40):
+            trace = cases_run.played(case)[0].trace
+            causes.update(first[1] for first, later in zip(trace, trace[3:])
+                          if first[0] == 'stalled' and later == ('passed',))
+        for cause in (101, 102, 103):
+            self.assertGreaterEqual(causes[cause], 10, cause)
+
+    def test_streams_are_repeated_from_a_word_on(self):
+        self.assertEqual(cases_run.unrolled(cases_run.Stream((7, 8, 9), 1, 8)), [7, 8, 9, 8, 9, 8, 9, 8])
+        self.assertEqual(cases_run.unrolled(cases_run.Stream((7, 8, 9), 0, 2)), [7, 8])
+        self.assertEqual(cases_run.unrolled(cases_run.EMPTY), [])
+
+    def test_cut_parts(self):
+        machine = cases_run.made(cases_run.QUIET[0])
+        for name in LENT:
+            part = getattr(machine, name)
+            whole = cases_run.numbers_in(part)
+            for length in (0, 1, 16, 17, whole - 1):
+                self.assertEqual(cases_run.numbers_in(cases_run.cut(part, length)), length)
+            self.assertEqual(cases_run.cut(part, whole), part)
+
+    def test_waits_of_a_seed(self):
+        for seed in cases_run.QUIET[:3] + cases_run.ANY[:3]:
+            self.assertEqual(cases_run.first_waits(seed), cases_run.made(seed).waits)
+
+    def test_numbers_at_their_limit(self):
+        for which, past in cases_run.PAST.items():
+            for value, answer in ((past - 1, ('finished',)), (past, ('rejected', 10))):
+                case = cases_run.Case(cases_run.QUIET[0], [cases_run.EMPTY] * 3, number=(which, value))
+                self.assertEqual(cases_run.played(case)[0].answer, answer)
+
+    def test_packed(self):
+        case = cases_run.Case(6, [cases_run.Stream((7, 8), 1, 3), cases_run.EMPTY, cases_run.plain(9)], 10,
+                              Cursor((1, 2, 3), 4), (5, 6), (7, 8))
+        self.assertEqual(struct.unpack('<20I', cases_run.packed(case)),
+                         (6, 53, 71, 10, 1, 2, 3, 4, 2, 1, 3, 7, 8, 0, 0, 0, 1, 0, 1, 9))
 
 
 if __name__ == '__main__':

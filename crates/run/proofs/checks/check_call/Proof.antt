@@ -50,7 +50,7 @@ need-requires-4 c κs = search needs
 -- src/checks.rt:46:1
 returns : tie.Need-returns
 unfolding callCheck
-returns c = cc
+returns c = rw (c .need4 .ensures, c .before .need3 .ensures, c .before .before .need2 .ensures, c .before .before .before .need .ensures, c .before .before .before .before .is-placed .ensures, c .before .before .before .before .before .machine-formed .ensures, c .before .before .before .before .before .before .both .ensures, c .before .before .before .before .before .before .before .streams-sized .ensures, c .before .before .before .before .before .before .before .before .machine-sized .ensures)
 
 pub check-call-spec : {M : Type 1} → statement M
 check-call-spec =
