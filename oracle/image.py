@@ -1,6 +1,9 @@
 """Saved images: save, load, and where a bad image goes wrong (document 01, "Saved image")."""
 
-from machine import LENT, Machine, lent_refusal
+import struct
+from math import prod
+
+from machine import LENT, Machine, has_shape, lent_refusal
 
 SIZE = 48473
 # Kind and body length of the seven records, in order.
@@ -16,15 +19,20 @@ def number(value, size):
     return value.to_bytes(size, 'little')
 
 
-def numbers(values, size):
-    return b''.join(number(value, size) for value in values)
+def flat(part):
+    """The numbers of nested lists by thread or bank, row, column."""
+    while isinstance(part[0], list):
+        part = [number for inner in part for number in inner]
+    return part
 
 
 def rows(part, size):
-    """Nested lists by thread or bank, row, column."""
-    if isinstance(part[0], list):
-        return b''.join(rows(inner, size) for inner in part)
-    return numbers(part, size)
+    """Numbers of at most 4 bytes, each cut to its size."""
+    values = flat(part)
+    data = bytearray(struct.pack(f'<{len(values)}I', *values))
+    for width in range(4, size, -1):
+        del data[width - 1::width]
+    return bytes(data)
 
 
 def wait_numbers(wait):
@@ -82,6 +90,22 @@ class BadField(Exception):
     """The first field missing, cut or out of range; its argument is the field's offset."""
 
 
+def unpacked(data, size):
+    """Little-endian numbers of one size, at most 4 bytes."""
+    count = len(data) // size
+    wide = bytearray(4 * count)
+    for place in range(size):
+        wide[place::4] = data[place::size]
+    return list(struct.unpack(f'<{count}I', wide))
+
+
+def nested(values, shape):
+    """Numbers in nested lists of a shape."""
+    for columns in reversed(shape[1:]):
+        values = [values[at:at + columns] for at in range(0, len(values), columns)]
+    return values
+
+
 class Fields:
     """The fields of an image, one after the other."""
 
@@ -108,20 +132,15 @@ class Fields:
 
     def part(self, shape, size, limit=None):
         """Nested lists by thread or bank, row, column."""
-        if len(shape) > 1:
-            return [self.part(shape[1:], size, limit) for _ in range(shape[0])]
-        start, count = self.at, shape[0]
+        start, count = self.at, prod(shape)
         there = min(count, (len(self.data) - start) // size)  # fields that are neither missing nor cut
-        values = [int.from_bytes(self.data[at:at + size], 'little')
-                  for at in range(start, start + there * size, size)]
-        if limit is not None:
-            for place, value in enumerate(values):
-                if value > limit:
-                    raise BadField(start + place * size)
+        values = unpacked(self.data[start:start + there * size], size)
+        if limit is not None and values and max(values) > limit:
+            raise BadField(start + size * next(place for place, value in enumerate(values) if value > limit))
         self.at = start + there * size
         if there < count:
             raise BadField(self.at)
-        return values
+        return nested(values, shape)
 
     def header(self, kind, length):
         """Length and kind are fields of their own."""
@@ -144,7 +163,7 @@ class Fields:
 
 def parsed(data):
     """The machine of an image; raises BadField."""
-    machine, fields = Machine(), Fields(data)
+    machine, fields = Machine.__new__(Machine), Fields(data)  # every part is set below
     fields.header(*RECORDS[0])
     machine.settings = fields.part((3, 64), 2)
     machine.mutexes = fields.part((8,), 1, 3)
@@ -180,7 +199,7 @@ def read_image(data):
 
 def load(machine, data):
     """Overwrites the machine: ('loaded',), ('refused', 4) or ('refused', 9, offset). Never answers 10."""
-    if lent_refusal(machine, tuple(LENT), control=False) == 4:
+    if not all(has_shape(getattr(machine, name), shape) for name, (shape, _) in LENT.items()):
         return ('refused', 4)
     answer = read_image(data)
     if answer[0] == 'refused':

@@ -5,6 +5,7 @@ ghost use Rattle.run.specs.Isolation.{Isolated};
 ghost use Rattle.run.specs.Kept.{RunKeeps};
 ghost use Rattle.run.specs.StuckForGood.{StuckForGood};
 ghost use Rattle.dest.specs.Cover.{ViewsCover};
+ghost use Rattle.image.specs.Promises.{ImageFacts, RoundTrips};
 ghost use Rattle.bench.specs.Promises.{GprPromises, DestPromises, SourcePromises};
 ghost use Rattle.expander.specs.Promises.{CutAnywhere};
 ghost use Rattle.acceptance.specs.Worked.{Worked};
@@ -24,6 +25,9 @@ pub fn promises()
     ensures stuck { λ _. ⌜ StuckForGood ⌝ }
     // each Dest view covers every storage row exactly once, in every setting of the flags
     ensures covers { λ _. ⌜ ViewsCover ⌝ }
+    // images load to the state they were saved from, and each accepted image saves to its own bytes
+    ensures images { λ _. ⌜ ImageFacts ⌝ }
+    ensures trips { λ _. ⌜ RoundTrips ⌝ }
     // what the bench writes is read back, and every other register and row reads as before
     ensures gprs { λ _. ⌜ GprPromises ⌝ }
     ensures rows { λ _. ⌜ DestPromises ⌝ }

@@ -1,18 +1,19 @@
 -- What makes a format right, and one law for each way of making a format, over every width, count and limit.
 use Prim.Native.Nat.{ℕ, zero, suc, _+_, _*_, _^_, _≤_, _<_}
 use mathlib.Core.Path.{_≡_, refl, sym, ap, ap₂, _∙_, subst}
-use mathlib.Core.Bool.{Bool, true, false}
+use mathlib.Core.Bool.{true, false}
 use mathlib.Core.List.{List, [], _∷_, _++_, append-assoc, append-nil}
 use native.Mathlib.Nat.{suc-mul}
 use native.Mathlib.Omega.{arith}
-use lib.Dec.{eqb}
+use lib.Dec.{leb, eqb}
 use lib.ListN.{length, drop, length-append}
 use lib.Seq.{drop-at, drop-drop, drop-length}
-use borrow.Author.Tests.{eq-eqb, ne-eqb, eqb-true}
+use borrow.Author.Tests.{eq-eqb, ne-eqb, eqb-true, le-leb, leb-true}
 use Rattle.bits.specs.Bytes.{enc, le, Bytes}
+use Rattle.bits.specs.Ranges.{allAtMost}
 use Rattle.bits.proofs.Bytes.{bytes-drop, enc-long, le-enc, enc-le}
 use Rattle.bits.proofs.Choices.{and-left, and-right, and-intro}
-use Rattle.format.specs.Format.{Format, num, onward, dep, both, many, manyPut, manyGet, manyGood, manyOk, numbers, viaOn, via, fixed, kind, accepts}
+use Rattle.format.specs.Format.{Format, num, dep, both, many, manyPut, manyGet, manyGood, manyOk, numbers, viaOn, via, fixed, kind, accepts}
 use Rattle.format.proofs.Fields.{num-in, num-le, num-whole, onward-on, onward-le, onward-whole}
 
 -- reading gives back what was written, and writing what was read gives back its bytes
@@ -124,11 +125,12 @@ numbers-lawful n w hi pos room = many-lawful n (num w 0 hi) (num-lawful w 0 hi p
 
 -- ---- for the values of another type that have a shape
 pub viaOn-lawful : {A B : Type 0} (P : B → Type 0) (to : A → B) (of : B → A) (f : Format A) → Lawful f →
-    ((b : B) → P b → to (of b) ≡ b) → ((a : A) → f .Ok a → of (to a) ≡ a) → ((a : A) → f .Ok a → P (to a)) → Lawful (viaOn P to of f)
+    ((b : B) → viaOn P to of f .Ok b → to (of b) ≡ b) → ((a : A) → f .Ok a → of (to a) ≡ a) → ((a : A) → f .Ok a → P (to a)) →
+    Lawful (viaOn P to of f)
 viaOn-lawful {A} P to of f F there back shape =
     record {
       long = λ b ok. F .long (of b) (ok .1);
-      get-put = λ b rest ok. ap to (F .get-put (of b) rest (ok .1)) ∙ there b (ok .0);
+      get-put = λ b rest ok. ap to (F .get-put (of b) rest (ok .1)) ∙ there b ok;
       good-put = λ b rest ok. F .good-put (of b) rest (ok .1);
       good-le = F .good-le;
       put-get = λ bs b e. ap (λ (a : A). f .put a ++ drop (f .size) bs) (back (f .get bs) (F .ok-get bs b e)) ∙ F .put-get bs b e;
@@ -151,32 +153,7 @@ kind-lawful k f a b F =
     (λ x. refl)
     (λ t ok. refl)
 
--- ---- a whole value, with nothing after it
-module _ {A : Type 0} (f : Format A) (F : Lawful f) where
-  pub whole-accepts : (a : A) → f .Ok a → accepts f (f .put a) ≡ true
-  unfolding accepts
-  whole-accepts a ok = simp (eq-eqb _ _ (F .long a ok), eq-eqb _ _ (rw append-nil at (F .good-put a [] ok)))
-
-  pub whole-get : (a : A) → f .Ok a → f .get (f .put a) ≡ a
-  whole-get a ok = rw append-nil at (F .get-put a [] ok)
-
-  pub accepts-whole : (bs : List ℕ) → accepts f bs ≡ true → (length bs ≡ f .size) × (f .good bs ≡ f .size)
-  unfolding accepts
-  accepts-whole bs e =
-      let long = eqb (length bs) (f .size) in
-      let good = eqb (f .good bs) (f .size) in
-      (eqb-true _ _ (and-left long good e), eqb-true _ _ (and-right long good e))
-
-  pub whole-put : (bs : List ℕ) → Bytes bs → accepts f bs ≡ true → f .put (f .get bs) ≡ bs
-  whole-put bs b e =
-      let k = accepts-whole bs e in
-      let none : drop (f .size) bs ≡ [] = rw (← k .0) (drop-length bs) in
-      sym (append-nil _) ∙ ap (λ (l : List ℕ). f .put (f .get bs) ++ l) (sym none) ∙ F .put-get bs b (k .1)
-
-  pub whole-ok : (bs : List ℕ) → Bytes bs → accepts f bs ≡ true → f .Ok (f .get bs)
-  whole-ok bs b e = F .ok-get bs b (accepts-whole bs e .1)
-
--- whether the bytes are accepted, by their number and how far they are good
+-- ---- whether bytes are accepted, by their number and how far they are good
 module _ {A : Type 0} (f : Format A) (bs : List ℕ) where
   pub accepts-not-long : (length bs ≡ f .size → ⊥) → accepts f bs ≡ false
   unfolding accepts
@@ -189,3 +166,49 @@ module _ {A : Type 0} (f : Format A) (bs : List ℕ) where
   pub accepts-yes : length bs ≡ f .size → f .good bs ≡ f .size → accepts f bs ≡ true
   unfolding accepts
   accepts-yes h k = simp (eq-eqb _ _ h, eq-eqb _ _ k)
+
+  pub accepts-whole : accepts f bs ≡ true → (length bs ≡ f .size) × (f .good bs ≡ f .size)
+  unfolding accepts
+  accepts-whole e =
+      let long = eqb (length bs) (f .size) in
+      let good = eqb (f .good bs) (f .size) in
+      (eqb-true _ _ (and-left long good e), eqb-true _ _ (and-right long good e))
+
+-- ---- what can be written: a record where its body can, and n numbers where they are n and in range
+pub kind-ok : {A : Type 0} (k : ℕ) (f : Format A) (a : A) → f .Ok a → kind k f .Ok a
+kind-ok k f a ok = (tt, (((tt, (omega arith, omega arith)), (tt, (omega arith, omega arith))), ok))
+
+pub numbers-ok : (w hi n : ℕ) (l : List ℕ) → length l ≡ n → allAtMost hi l ≡ true → numbers n w hi .Ok l
+unfolding manyOk allAtMost
+numbers-ok w hi zero [] e h = tt
+numbers-ok w hi zero (x ∷ l) e h = absurd (omega arith)
+numbers-ok w hi (suc n) [] e h = absurd (omega arith)
+numbers-ok w hi (suc n) (x ∷ l) e h =
+    ((omega arith, leb-true x hi (and-left (leb x hi) (allAtMost hi l) h)), numbers-ok w hi n l (omega arith) (and-right (leb x hi) (allAtMost hi l) h))
+
+pub ok-numbers : (w hi n : ℕ) (l : List ℕ) → numbers n w hi .Ok l → (length l ≡ n) × (allAtMost hi l ≡ true)
+unfolding manyOk allAtMost
+ok-numbers w hi zero [] ok = (refl, refl)
+ok-numbers w hi zero (x ∷ l) ok = absurd ok
+ok-numbers w hi (suc n) [] ok = absurd ok
+ok-numbers w hi (suc n) (x ∷ l) ok =
+    let rest = ok-numbers w hi n l (ok .1) in
+    (ap suc (rest .0), and-intro (leb x hi) (allAtMost hi l) (le-leb x hi (ok .0 .1)) (rest .1))
+
+-- ---- a whole value, with nothing after it
+module _ {A : Type 0} (f : Format A) (F : Lawful f) where
+  pub whole-accepts : (a : A) → f .Ok a → accepts f (f .put a) ≡ true
+  unfolding accepts
+  whole-accepts a ok = simp (eq-eqb _ _ (F .long a ok), eq-eqb _ _ (rw append-nil at (F .good-put a [] ok)))
+
+  pub whole-get : (a : A) → f .Ok a → f .get (f .put a) ≡ a
+  whole-get a ok = rw append-nil at (F .get-put a [] ok)
+
+  pub whole-put : (bs : List ℕ) → Bytes bs → accepts f bs ≡ true → f .put (f .get bs) ≡ bs
+  whole-put bs b e =
+      let k = accepts-whole f bs e in
+      let none : drop (f .size) bs ≡ [] = rw (← k .0) (drop-length bs) in
+      sym (append-nil _) ∙ ap (λ (l : List ℕ). f .put (f .get bs) ++ l) (sym none) ∙ F .put-get bs b (k .1)
+
+  pub whole-ok : (bs : List ℕ) → Bytes bs → accepts f bs ≡ true → f .Ok (f .get bs)
+  whole-ok bs b e = F .ok-get bs b (accepts-whole f bs e .1)

@@ -4,6 +4,7 @@ use Rattle.run.proofs.Kept.{run-keeps}
 use Rattle.step.proofs.Kept.{keeps-formed}
 use Rattle.step.proofs.Unchanged.{unchanged}
 use Rattle.dest.proofs.Cover.{views-cover}
+use Rattle.image.proofs.Trips.{image-facts, round-trips}
 use Rattle.bench.proofs.DestBack.{dest-promises}
 use Rattle.bench.proofs.GprBack.{gpr-promises}
 use Rattle.bench.proofs.SourceBack.{source-promises}
@@ -13,7 +14,7 @@ use Rattle.acceptance.proofs.promises.Statement.{statement}
 use Rattle.acceptance.proofs.promises.Tie as tie
 
 returns : tie.Need-returns
-returns c = (isolated, (all-worked, (unchanged, (keeps-formed, (run-keeps, (stuck-for-good, (views-cover, (gpr-promises, (dest-promises, (source-promises, cut))))))))))
+returns c = (isolated, (all-worked, (unchanged, (keeps-formed, (run-keeps, (stuck-for-good, (views-cover, (image-facts, (round-trips, (gpr-promises, (dest-promises, (source-promises, cut))))))))))))
 
 pub promises-spec : {M : Type 1} → statement M
 promises-spec = tie.close (tie.spec returns)

@@ -1,14 +1,10 @@
-use Prim.Native.Nat.{ℕ, _+_, _-_, _*_, _<_, _≤_}
-use mathlib.Core.Path.{_≡_, ap, _∙_}
+use Prim.Native.Nat.{ℕ, _+_, _-_}
+use mathlib.Core.Path.{ap, _∙_}
 use native.Mathlib.Omega.{arith}
-use lib.ListN.{drop}
 use Rattle.format.specs.Format.{numGood}
 use Rattle.format.proofs.Fields.{Checking, checking-starts, checking-left, checking-goes, checking-stops, checking-ends}
 use Rattle.format.proofs.check.fields.Statement.{statement}
 use Rattle.format.proofs.check.fields.Tie as tie
-use Rattle.format.proofs.check.fields.Reads as reads
-use Rattle.format.proofs.check.fields.Lts as lts
-use Rattle.format.proofs.check.field.Reads as field-reads
 
 abbrev Inv-loop : tie.InvT-loop
 Inv-loop s at n w hi p₀ i₀ p i = Checking (numGood w 0 hi) w s at n p i
@@ -16,43 +12,33 @@ Inv-loop s at n w hi p₀ i₀ p i = Checking (numGood w 0 hi) w s at n p i
 abbrev μ-loop : tie.MeasureT-loop
 μ-loop s at n w hi p₀ i₀ p i = n - i
 
--- src/check.rt:41:5
 loop-holds : tie.Need-loop-holds Inv-loop μ-loop
 loop-holds c = checking-starts _ _ _ _ _
 
--- src/check.rt:42:26
 add-field : tie.Need-add-field Inv-loop μ-loop
 add-field c = omega arith
 
--- src/check.rt:42:13
 field-requires : tie.Need-field-requires Inv-loop μ-loop
 field-requires c κs = omega arith
 
--- src/check.rt:44:20
 add-result : tie.Need-add-result Inv-loop μ-loop
 add-result c = omega arith
 
--- src/check.rt:44:13
 returns : tie.Need-returns Inv-loop μ-loop
 returns c = let a = c .before .before .before .before .before .args in let l = c .before .before .before .loop in let e = c .before .field .ensures .0 in (ap (λ (g : ℕ). l .p + g) e ∙ checking-stops (numGood (a .w) 0 (a .hi)) (a .w) (a .s .now) (a .at) (a .n) (l .p) (l .i) (c .before .before .loop-test .taken) (l .inv) (omega arith), omega (arith, checking-left (numGood (a .w) 0 (a .hi)) (a .w) (a .s .now) (a .at) (a .n) (l .p) (l .i) (c .before .before .loop-test .taken) (l .inv)))
 
--- src/check.rt:46:9
 add-p : tie.Need-add-p Inv-loop μ-loop
 add-p c = omega arith
 
--- src/check.rt:47:9
 add-i : tie.Need-add-i Inv-loop μ-loop
 add-i c = omega arith
 
--- src/check.rt:41:5
 loop-less : tie.Need-loop-less Inv-loop μ-loop
 loop-less c = omega arith
 
--- src/check.rt:41:5
 loop-again : tie.Need-loop-again Inv-loop μ-loop
 loop-again c = let a = c .before .before .before .before .before .args in let l = c .before .before .before .loop in checking-goes (numGood (a .w) 0 (a .hi)) (a .w) (a .s .now) (a .at) (a .n) (l .p) (l .i) (c .before .before .loop-test .taken) (l .inv) (omega (arith, c .before .field .ensures .0))
 
--- src/check.rt:35:1
 returns-2 : tie.Need-returns-2 Inv-loop μ-loop
 returns-2 c = let a = c .before .before .before .args in let l = c .before .loop in let k = checking-ends (numGood (a .w) 0 (a .hi)) (a .w) (a .s .now) (a .at) (a .n) (l .p) (l .i) (c .loop-test .left) (l .inv) in (k .0, omega arith)
 

@@ -4,20 +4,12 @@ use mathlib.Core.Path.{sym}
 use borrow.Author.Needs.{needs}
 use Rattle.format.proofs.check.onward.Statement.{statement}
 use Rattle.format.proofs.check.onward.Tie as tie
-use Rattle.format.proofs.check.onward.Reads as reads
-use Rattle.format.proofs.check.onward.Lts as lts
 
--- src/check.rt:13:27
-add-result : tie.Need-add-result
-add-result c = search needs
-
--- src/check.rt:9:1
 returns : tie.Need-returns
 returns c = (sym (onward-stop (c .before .args .a) (c .before .args .n) (c .before .args .b) (c .if1 .taken)), omega arith)
 
--- src/check.rt:9:1
 returns-2 : tie.Need-returns-2
 returns-2 c = (sym (onward-on (c .before .args .a) (c .before .args .n) (c .before .args .b) (c .if1 .left)), omega arith)
 
 pub onward-spec : {M : Type 1} → statement M
-onward-spec = tie.close (tie.spec add-result returns returns-2)
+onward-spec = tie.close (tie.spec (λ c. search needs) returns returns-2)

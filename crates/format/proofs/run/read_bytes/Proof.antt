@@ -1,14 +1,12 @@
 use Rattle.format.proofs.Joins.{le-byte}
-use Prim.Native.Nat.{ℕ, _+_, _-_, _*_, _<_, _≤_}
-use mathlib.Core.Path.{_≡_, refl}
+use Prim.Native.Nat.{_-_}
+use mathlib.Core.Path.{refl}
 use native.Mathlib.Omega.{arith}
 use lib.ListN.{length}
 use Rattle.bits.specs.Bytes.{le}
 use Rattle.format.proofs.Runs.{Reading, reading-starts, reading-there, reading-goes, reading-ends}
 use Rattle.format.proofs.run.read_bytes.Statement.{statement}
 use Rattle.format.proofs.run.read_bytes.Tie as tie
-use Rattle.format.proofs.run.read_bytes.Reads as reads
-use Rattle.format.proofs.run.read_bytes.Lts as lts
 
 abbrev Inv-loop : tie.InvT-loop
 Inv-loop s at dst₀ p₀ i₀ dst p i = Reading (le 1) 1 s at (length dst₀) dst p i
@@ -16,39 +14,30 @@ Inv-loop s at dst₀ p₀ i₀ dst p i = Reading (le 1) 1 s at (length dst₀) d
 abbrev μ-loop : tie.MeasureT-loop
 μ-loop s at dst₀ p₀ i₀ dst p i = length dst₀ - i
 
--- src/run.rt:44:5
 loop-holds : tie.Need-loop-holds Inv-loop μ-loop
 loop-holds c = let a = c .args in reading-starts (le 1) 1 (a .s .now) (a .at) (length (a .dst .now)) (a .dst .now) refl (omega arith)
 
--- src/run.rt:45:18
 shared-slice-read-dst : tie.Need-shared-slice-read-dst Inv-loop μ-loop
 shared-slice-read-dst c = let a = c .before .before .before .args in let l = c .before .before .loop in omega (arith, reading-there (le 1) 1 (a .s .now) (a .at) (length (a .dst .now)) (l .dst) (l .p) (l .i) (omega arith) (l .inv))
 
--- src/run.rt:45:9
 slice-write-dst : tie.Need-slice-write-dst Inv-loop μ-loop
 slice-write-dst c = omega arith
 
--- src/run.rt:46:9
 add-p : tie.Need-add-p Inv-loop μ-loop
 add-p c = let a = c .before .before .before .args in let l = c .before .before .loop in omega (arith, reading-there (le 1) 1 (a .s .now) (a .at) (length (a .dst .now)) (l .dst) (l .p) (l .i) (omega arith) (l .inv))
 
--- src/run.rt:47:9
 add-i : tie.Need-add-i Inv-loop μ-loop
 add-i c = omega arith
 
--- src/run.rt:44:5
 loop-less : tie.Need-loop-less Inv-loop μ-loop
 loop-less c = omega arith
 
--- src/run.rt:44:5
 loop-again : tie.Need-loop-again Inv-loop μ-loop
 loop-again c = let a = c .before .before .before .args in let l = c .before .before .loop in reading-goes (le 1) 1 (a .s .now) (a .at) (length (a .dst .now)) (l .dst) (l .p) (l .i) _ (omega arith) (l .inv) (le-byte (l .p) (a .s .now))
 
--- src/run.rt:38:1
 same-length : tie.Need-same-length Inv-loop μ-loop
 same-length c = c .before .loop .inv .long
 
--- src/run.rt:38:1
 returns : tie.Need-returns Inv-loop μ-loop
 returns c = let a = c .before .before .args in let l = c .before .loop in reading-ends (le 1) 1 (a .s .now) (a .at) (length (a .dst .now)) (l .dst) (l .p) (l .i) (omega arith) (l .inv)
 

@@ -1,15 +1,12 @@
 use borrow.Author.Needs.{needs}
-use Prim.Native.Nat.{ℕ, _+_, _-_, _*_, _<_, _≤_}
-use mathlib.Core.Path.{_≡_, refl}
+use Prim.Native.Nat.{_-_}
+use mathlib.Core.Path.{refl}
 use native.Mathlib.Omega.{arith}
 use lib.ListN.{length}
 use Rattle.bits.specs.Bytes.{le}
 use Rattle.format.proofs.Runs.{Reading, reading-starts, reading-there, reading-goes, reading-ends}
 use Rattle.format.proofs.run.read_halves.Statement.{statement}
 use Rattle.format.proofs.run.read_halves.Tie as tie
-use Rattle.format.proofs.run.read_halves.Reads as reads
-use Rattle.format.proofs.run.read_halves.Lts as lts
-use Rattle.format.proofs.number.read_half.Reads as read-half-reads
 
 abbrev Inv-loop : tie.InvT-loop
 Inv-loop s at dst₀ p₀ i₀ dst p i = Reading (le 2) 2 s at (length dst₀) dst p i
@@ -17,43 +14,30 @@ Inv-loop s at dst₀ p₀ i₀ dst p i = Reading (le 2) 2 s at (length dst₀) d
 abbrev μ-loop : tie.MeasureT-loop
 μ-loop s at dst₀ p₀ i₀ dst p i = length dst₀ - i
 
--- src/run.rt:30:5
 loop-holds : tie.Need-loop-holds Inv-loop μ-loop
 loop-holds c = let a = c .before .before .args in reading-starts (le 2) 2 (a .s .now) (a .at) (length (a .dst .now)) (a .dst .now) refl (omega arith)
 
--- src/run.rt:31:18
 read-half-requires : tie.Need-read-half-requires Inv-loop μ-loop
 read-half-requires c κs = let a = c .before .before .before .before .args in let l = c .before .loop in omega (arith, reading-there (le 2) 2 (a .s .now) (a .at) (length (a .dst .now)) (l .dst) (l .p) (l .i) (omega arith) (l .inv))
 
--- src/run.rt:31:9
-mul-dst : tie.Need-mul-dst Inv-loop μ-loop
-mul-dst c = search needs
-
--- src/run.rt:31:9
 slice-write-dst : tie.Need-slice-write-dst Inv-loop μ-loop
 slice-write-dst c = omega arith
 
--- src/run.rt:32:9
 add-p : tie.Need-add-p Inv-loop μ-loop
 add-p c = let a = c .before .before .before .before .before .args in let l = c .before .before .loop in omega (arith, reading-there (le 2) 2 (a .s .now) (a .at) (length (a .dst .now)) (l .dst) (l .p) (l .i) (omega arith) (l .inv))
 
--- src/run.rt:33:9
 add-i : tie.Need-add-i Inv-loop μ-loop
 add-i c = omega arith
 
--- src/run.rt:30:5
 loop-less : tie.Need-loop-less Inv-loop μ-loop
 loop-less c = omega arith
 
--- src/run.rt:30:5
 loop-again : tie.Need-loop-again Inv-loop μ-loop
 loop-again c = let a = c .before .before .before .before .before .args in let l = c .before .before .loop in reading-goes (le 2) 2 (a .s .now) (a .at) (length (a .dst .now)) (l .dst) (l .p) (l .i) _ (omega arith) (l .inv) (c .read-half .ensures)
 
--- src/run.rt:24:1
 same-length : tie.Need-same-length Inv-loop μ-loop
 same-length c = c .before .loop .inv .long
 
--- src/run.rt:24:1
 returns : tie.Need-returns Inv-loop μ-loop
 returns c = let a = c .before .before .before .before .args in let l = c .before .loop in reading-ends (le 2) 2 (a .s .now) (a .at) (length (a .dst .now)) (l .dst) (l .p) (l .i) (omega arith) (l .inv)
 
@@ -65,7 +49,7 @@ read-halves-spec =
     μ-loop
     loop-holds
     read-half-requires
-    mul-dst
+    (λ c. search needs)
     slice-write-dst
     add-p
     add-i

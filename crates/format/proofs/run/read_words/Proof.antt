@@ -1,15 +1,12 @@
 use borrow.Author.Needs.{needs}
-use Prim.Native.Nat.{ℕ, _+_, _-_, _*_, _<_, _≤_}
-use mathlib.Core.Path.{_≡_, refl}
+use Prim.Native.Nat.{_-_}
+use mathlib.Core.Path.{refl}
 use native.Mathlib.Omega.{arith}
 use lib.ListN.{length}
 use Rattle.bits.specs.Bytes.{le}
 use Rattle.format.proofs.Runs.{Reading, reading-starts, reading-there, reading-goes, reading-ends}
 use Rattle.format.proofs.run.read_words.Statement.{statement}
 use Rattle.format.proofs.run.read_words.Tie as tie
-use Rattle.format.proofs.run.read_words.Reads as reads
-use Rattle.format.proofs.run.read_words.Lts as lts
-use Rattle.format.proofs.number.read.Reads as read-reads
 
 abbrev Inv-loop : tie.InvT-loop
 Inv-loop s at w dst₀ p₀ i₀ dst p i = Reading (le w) w s at (length dst₀) dst p i
@@ -17,43 +14,30 @@ Inv-loop s at w dst₀ p₀ i₀ dst p i = Reading (le w) w s at (length dst₀)
 abbrev μ-loop : tie.MeasureT-loop
 μ-loop s at w dst₀ p₀ i₀ dst p i = length dst₀ - i
 
--- src/run.rt:16:5
 loop-holds : tie.Need-loop-holds Inv-loop μ-loop
 loop-holds c = let a = c .before .before .args in reading-starts (le (a .w)) (a .w) (a .s .now) (a .at) (length (a .dst .now)) (a .dst .now) refl (omega arith)
 
--- src/run.rt:17:18
 read-requires : tie.Need-read-requires Inv-loop μ-loop
 read-requires c κs = let a = c .before .before .before .before .args in let l = c .before .loop in omega (arith, reading-there (le (a .w)) (a .w) (a .s .now) (a .at) (length (a .dst .now)) (l .dst) (l .p) (l .i) (omega arith) (l .inv))
 
--- src/run.rt:17:9
-mul-dst : tie.Need-mul-dst Inv-loop μ-loop
-mul-dst c = search needs
-
--- src/run.rt:17:9
 slice-write-dst : tie.Need-slice-write-dst Inv-loop μ-loop
 slice-write-dst c = omega arith
 
--- src/run.rt:18:9
 add-p : tie.Need-add-p Inv-loop μ-loop
 add-p c = let a = c .before .before .before .before .before .args in let l = c .before .before .loop in omega (arith, reading-there (le (a .w)) (a .w) (a .s .now) (a .at) (length (a .dst .now)) (l .dst) (l .p) (l .i) (omega arith) (l .inv))
 
--- src/run.rt:19:9
 add-i : tie.Need-add-i Inv-loop μ-loop
 add-i c = omega arith
 
--- src/run.rt:16:5
 loop-less : tie.Need-loop-less Inv-loop μ-loop
 loop-less c = omega arith
 
--- src/run.rt:16:5
 loop-again : tie.Need-loop-again Inv-loop μ-loop
 loop-again c = let a = c .before .before .before .before .before .args in let l = c .before .before .loop in reading-goes (le (a .w)) (a .w) (a .s .now) (a .at) (length (a .dst .now)) (l .dst) (l .p) (l .i) _ (omega arith) (l .inv) (c .read .ensures)
 
--- src/run.rt:10:1
 same-length : tie.Need-same-length Inv-loop μ-loop
 same-length c = c .before .loop .inv .long
 
--- src/run.rt:10:1
 returns : tie.Need-returns Inv-loop μ-loop
 returns c = let a = c .before .before .before .before .args in let l = c .before .loop in reading-ends (le (a .w)) (a .w) (a .s .now) (a .at) (length (a .dst .now)) (l .dst) (l .p) (l .i) (omega arith) (l .inv)
 
@@ -65,7 +49,7 @@ read-words-spec =
     μ-loop
     loop-holds
     read-requires
-    mul-dst
+    (λ c. search needs)
     slice-write-dst
     add-p
     add-i

@@ -1,6 +1,5 @@
 use borrow.Author.Needs.{needs}
-use Prim.Native.Nat.{ℕ, _+_, _-_, _*_, _<_, _≤_}
-use mathlib.Core.Path.{_≡_, refl}
+use Prim.Native.Nat.{_-_}
 use native.Mathlib.Omega.{arith}
 use lib.ListN.{length}
 use Rattle.bits.specs.Bytes.{enc}
@@ -8,9 +7,6 @@ use Rattle.bits.proofs.Bytes.{enc-long}
 use Rattle.format.proofs.Runs.{Writing, writing-starts, writing-room, writing-goes, writing-ends}
 use Rattle.format.proofs.run.write_halves.Statement.{statement}
 use Rattle.format.proofs.run.write_halves.Tie as tie
-use Rattle.format.proofs.run.write_halves.Reads as reads
-use Rattle.format.proofs.run.write_halves.Lts as lts
-use Rattle.format.proofs.number.write_half.Reads as write-half-reads
 
 abbrev Inv-loop : tie.InvT-loop
 Inv-loop out₀ at src p₀ i₀ out p i = Writing (enc 2) 2 out₀ at src out p i
@@ -18,43 +14,30 @@ Inv-loop out₀ at src p₀ i₀ out p i = Writing (enc 2) 2 out₀ at src out p
 abbrev μ-loop : tie.MeasureT-loop
 μ-loop out₀ at src p₀ i₀ out p i = length src - i
 
--- src/run.rt:72:5
 loop-holds : tie.Need-loop-holds Inv-loop μ-loop
 loop-holds c = let a = c .before .before .args in writing-starts (enc 2) 2 (a .out .now) (a .at) (a .src .now) (omega arith)
 
--- src/run.rt:73:43
-mul-write-half : tie.Need-mul-write-half Inv-loop μ-loop
-mul-write-half c = search needs
-
--- src/run.rt:73:43
 shared-slice-read-write-half : tie.Need-shared-slice-read-write-half Inv-loop μ-loop
 shared-slice-read-write-half c = omega arith
 
--- src/run.rt:73:9
 write-half-requires : tie.Need-write-half-requires Inv-loop μ-loop
 write-half-requires c κs = let a = c .before .before .before .before .before .before .args in let l = c .before .before .before .loop in omega (arith, writing-room (enc 2) 2 (a .out .now) (a .at) (a .src .now) (l .out) (l .p) (l .i) (c .before .before .loop-test .taken) (l .inv))
 
--- src/run.rt:74:9
 add-p : tie.Need-add-p Inv-loop μ-loop
 add-p c = let a = c .before .before .before .before .before .before .before .before .before .args in let l = c .before .before .before .before .before .before .loop in omega (arith, writing-room (enc 2) 2 (a .out .now) (a .at) (a .src .now) (l .out) (l .p) (l .i) (c .before .before .before .before .before .loop-test .taken) (l .inv))
 
--- src/run.rt:75:9
 add-i : tie.Need-add-i Inv-loop μ-loop
 add-i c = omega arith
 
--- src/run.rt:72:5
 loop-less : tie.Need-loop-less Inv-loop μ-loop
 loop-less c = omega arith
 
--- src/run.rt:72:5
 loop-again : tie.Need-loop-again Inv-loop μ-loop
 loop-again c = let a = c .before .before .before .before .before .before .before .before .before .args in let l = c .before .before .before .before .before .before .loop in writing-goes (enc 2) 2 (a .out .now) (a .at) (a .src .now) (l .out) (c .before .before .write-half .last .0) (l .p) (l .i) 0 (c .before .before .before .before .before .loop-test .taken) (l .inv) (c .before .before .write-half .ensures .list) (enc-long 2 _)
 
--- src/run.rt:66:1
 same-length : tie.Need-same-length Inv-loop μ-loop
 same-length c = c .before .loop .inv .long
 
--- src/run.rt:66:1
 returns : tie.Need-returns Inv-loop μ-loop
 returns c = let a = c .before .before .before .before .args in let l = c .before .loop in writing-ends (enc 2) 2 (a .out .now) (a .at) (a .src .now) (enc-long 2) (l .out) (l .p) (l .i) (c .loop-test .left) (l .inv)
 
@@ -65,7 +48,7 @@ write-halves-spec =
     Inv-loop
     μ-loop
     loop-holds
-    mul-write-half
+    (λ c. search needs)
     shared-slice-read-write-half
     write-half-requires
     add-p

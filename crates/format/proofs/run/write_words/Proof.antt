@@ -1,6 +1,5 @@
 use borrow.Author.Needs.{needs}
-use Prim.Native.Nat.{ℕ, _+_, _-_, _*_, _<_, _≤_}
-use mathlib.Core.Path.{_≡_, refl}
+use Prim.Native.Nat.{_-_}
 use native.Mathlib.Omega.{arith}
 use lib.ListN.{length}
 use Rattle.bits.specs.Bytes.{enc}
@@ -8,9 +7,6 @@ use Rattle.bits.proofs.Bytes.{enc-long}
 use Rattle.format.proofs.Runs.{Writing, writing-starts, writing-room, writing-goes, writing-ends}
 use Rattle.format.proofs.run.write_words.Statement.{statement}
 use Rattle.format.proofs.run.write_words.Tie as tie
-use Rattle.format.proofs.run.write_words.Reads as reads
-use Rattle.format.proofs.run.write_words.Lts as lts
-use Rattle.format.proofs.number.write.Reads as write-reads
 
 abbrev Inv-loop : tie.InvT-loop
 Inv-loop out₀ at w src p₀ i₀ out p i = Writing (enc w) w out₀ at src out p i
@@ -18,43 +14,30 @@ Inv-loop out₀ at w src p₀ i₀ out p i = Writing (enc w) w out₀ at src out
 abbrev μ-loop : tie.MeasureT-loop
 μ-loop out₀ at w src p₀ i₀ out p i = length src - i
 
--- src/run.rt:58:5
 loop-holds : tie.Need-loop-holds Inv-loop μ-loop
 loop-holds c = let a = c .before .before .args in writing-starts (enc (a .w)) (a .w) (a .out .now) (a .at) (a .src .now) (omega arith)
 
--- src/run.rt:59:41
-mul-write : tie.Need-mul-write Inv-loop μ-loop
-mul-write c = search needs
-
--- src/run.rt:59:41
 shared-slice-read-write : tie.Need-shared-slice-read-write Inv-loop μ-loop
 shared-slice-read-write c = omega arith
 
--- src/run.rt:59:9
 write-requires : tie.Need-write-requires Inv-loop μ-loop
 write-requires c κs = let a = c .before .before .before .before .before .before .args in let l = c .before .before .before .loop in omega (arith, writing-room (enc (a .w)) (a .w) (a .out .now) (a .at) (a .src .now) (l .out) (l .p) (l .i) (c .before .before .loop-test .taken) (l .inv))
 
--- src/run.rt:60:9
 add-p : tie.Need-add-p Inv-loop μ-loop
 add-p c = let a = c .before .before .before .before .before .before .before .before .before .args in let l = c .before .before .before .before .before .before .loop in omega (arith, writing-room (enc (a .w)) (a .w) (a .out .now) (a .at) (a .src .now) (l .out) (l .p) (l .i) (c .before .before .before .before .before .loop-test .taken) (l .inv))
 
--- src/run.rt:61:9
 add-i : tie.Need-add-i Inv-loop μ-loop
 add-i c = omega arith
 
--- src/run.rt:58:5
 loop-less : tie.Need-loop-less Inv-loop μ-loop
 loop-less c = omega arith
 
--- src/run.rt:58:5
 loop-again : tie.Need-loop-again Inv-loop μ-loop
 loop-again c = let a = c .before .before .before .before .before .before .before .before .before .args in let l = c .before .before .before .before .before .before .loop in writing-goes (enc (a .w)) (a .w) (a .out .now) (a .at) (a .src .now) (l .out) (c .before .before .write .last .0) (l .p) (l .i) 0 (c .before .before .before .before .before .loop-test .taken) (l .inv) (c .before .before .write .ensures .list) (enc-long (a .w) _)
 
--- src/run.rt:52:1
 same-length : tie.Need-same-length Inv-loop μ-loop
 same-length c = c .before .loop .inv .long
 
--- src/run.rt:52:1
 returns : tie.Need-returns Inv-loop μ-loop
 returns c = let a = c .before .before .before .before .args in let l = c .before .loop in writing-ends (enc (a .w)) (a .w) (a .out .now) (a .at) (a .src .now) (enc-long (a .w)) (l .out) (l .p) (l .i) (c .loop-test .left) (l .inv)
 
@@ -65,7 +48,7 @@ write-words-spec =
     Inv-loop
     μ-loop
     loop-holds
-    mul-write
+    (λ c. search needs)
     shared-slice-read-write
     write-requires
     add-p

@@ -1,0 +1,133 @@
+// Saved images (document 01, "Saved image"): save, load, and what the two promise together.
+ghost use mathlib.Core.Path.{_≡_};
+ghost use Rattle.machine.specs.Machine.{machine, stores};
+ghost use Rattle.image.specs.Calls.{savedNumbers, saving, saveOf, loadNumbers, loading, loadAnswer, loadOf};
+ghost use Rattle.image.specs.Promises.{ImageFacts, RoundTrips};
+
+mod first;
+mod marks;
+mod places;
+mod stores;
+mod waits;
+mod whole;
+
+use machine::control::Control;
+use machine::refusal::Refusal;
+use places::IMAGE_BYTES;
+
+// What comes of saving.
+pub enum Saved {
+    Written,
+    NotSaved(Refusal),
+}
+
+// What comes of loading.
+pub enum LoadAnswer {
+    Taken,
+    NotLoaded(Refusal),
+}
+
+// The answer, and the control part: the image's, or the one handed in.
+pub struct Loaded {
+    pub answer: LoadAnswer,
+    pub control: Control,
+}
+
+// Writes a machine's image from the start of `out`, whose rest is left. Refusals 4, 10, 8.
+pub fn save(
+    control: Control,
+    settings: &[u16],
+    gprs: &[u32],
+    config: &[u32],
+    dest: &[u16],
+    marks: &[bool],
+    src_a: &[u32],
+    src_b: &[u32],
+    out: &mut [u8],
+) -> Saved
+    ensures { λ r. ⌜ saving r (now (out .exit)) ≡ saveOf (machine control (now (settings .entry)) (stores (now (gprs .entry)) (now (config .entry)) (now (dest .entry)) (now (marks .entry)) (now («src_a» .entry)) (now («src_b» .entry)))) (now (out .entry)) ⌝ }
+    ensures numbers { λ r. ⌜ savedNumbers r ≡ savedNumbers (saveOf (machine control (now (settings .entry)) (stores (now (gprs .entry)) (now (config .entry)) (now (dest .entry)) (now (marks .entry)) (now («src_a» .entry)) (now («src_b» .entry)))) (now (out .entry)) .answer) ⌝ }
+{
+    if !formed::machine_sized(control, settings, gprs, config, dest, marks, src_a, src_b) {
+        return Saved::NotSaved(Refusal::BadLength);
+    }
+    if !formed::machine_formed(control, settings, gprs, config, dest, marks, src_a, src_b) {
+        return Saved::NotSaved(Refusal::Malformed);
+    }
+    if out.len() < IMAGE_BYTES {
+        return Saved::NotSaved(Refusal::ShortOutput);
+    }
+    whole::write_machine(
+        out,
+        control,
+        settings,
+        gprs,
+        config,
+        dest,
+        marks,
+        src_a,
+        src_b,
+    );
+    Saved::Written
+}
+
+// Whether an image is taken, for parts that have their sizes or not.
+fn judge(fits: bool, bytes: &[u8]) -> LoadAnswer
+    ensures { λ r. ⌜ r ≡ loadAnswer fits (now (bytes .entry)) ⌝ }
+{
+    if !fits {
+        return LoadAnswer::NotLoaded(Refusal::BadLength);
+    }
+    let good = whole::scan(bytes);
+    if bytes.len() != IMAGE_BYTES {
+        return LoadAnswer::NotLoaded(Refusal::BadImage(good));
+    }
+    if good != IMAGE_BYTES {
+        return LoadAnswer::NotLoaded(Refusal::BadImage(good));
+    }
+    LoadAnswer::Taken
+}
+
+// Loads an image: every field is looked at before anything is written. Refusals 4, 9; the machine may be malformed.
+pub fn load(
+    bytes: &[u8],
+    control: Control,
+    settings: &mut [u16],
+    gprs: &mut [u32],
+    config: &mut [u32],
+    dest: &mut [u16],
+    marks: &mut [bool],
+    src_a: &mut [u32],
+    src_b: &mut [u32],
+) -> Loaded
+    ensures { λ r. ⌜ loading (r .answer) (machine (r .control) (now (settings .exit)) (stores (now (gprs .exit)) (now (config .exit)) (now (dest .exit)) (now (marks .exit)) (now («src_a» .exit)) (now («src_b» .exit)))) ≡ loadOf (now (bytes .entry)) (machine control (now (settings .entry)) (stores (now (gprs .entry)) (now (config .entry)) (now (dest .entry)) (now (marks .entry)) (now («src_a» .entry)) (now («src_b» .entry)))) ⌝ }
+    ensures numbers { λ r. ⌜ loadNumbers (r .answer) ≡ loadNumbers (loadOf (now (bytes .entry)) (machine control (now (settings .entry)) (stores (now (gprs .entry)) (now (config .entry)) (now (dest .entry)) (now (marks .entry)) (now («src_a» .entry)) (now («src_b» .entry)))) .answer) ⌝ }
+{
+    let fits = formed::machine_sized(control, settings, gprs, config, dest, marks, src_a, src_b);
+    let answer = judge(fits, bytes);
+    match answer {
+        LoadAnswer::NotLoaded(_) => Loaded { answer, control },
+        LoadAnswer::Taken => {
+            let loaded = whole::read_machine(
+                bytes,
+                settings,
+                gprs,
+                config,
+                dest,
+                marks,
+                src_a,
+                src_b,
+            );
+            Loaded {
+                answer,
+                control: loaded,
+            }
+        }
+    }
+}
+
+// What saving and loading promise together.
+pub fn promises()
+    ensures facts { λ _. ⌜ ImageFacts ⌝ }
+    ensures trips { λ _. ⌜ RoundTrips ⌝ }
+{}

@@ -1,0 +1,178 @@
+// A group: a machine saved, and loads from what was written.
+ghost use Prim.Native.Nat.{_+_, _≤_, _<_};
+ghost use lib.ListN.{length};
+use crate::lent::make;
+use crate::lent::save;
+use crate::lines::write_saved;
+use crate::loads::run_loads;
+use crate::made::Made;
+use crate::made::least;
+use crate::made::read_made;
+use format::number::read;
+use image::Saved;
+use machine::control::Control;
+
+// The longest output: some bytes more than an image.
+const OUT_MOST: usize = 48640;
+
+const IMAGE_BYTES: usize = 48473;
+
+// What the output holds before a save.
+const UNWRITTEN: u8 = 165;
+
+fn sum_of(out: &[u8]) -> u32 {
+    seeded::sums::checksum(seeded::sums::add_bytes(seeded::sums::start(), out))
+}
+
+fn fresh_saved(out: &mut [u8]) -> Saved {
+    let m = machine::fresh::fresh();
+    let settings = m.settings;
+    let gprs = m.gprs;
+    let config = m.config;
+    let dest = m.dest;
+    let marks = m.marks;
+    let src_a = m.src_a;
+    let src_b = m.src_b;
+    image::save(
+        m.control,
+        &settings,
+        &gprs,
+        &config,
+        &dest,
+        &marks,
+        &src_a,
+        &src_b,
+        out,
+    )
+}
+
+// Saves a fresh machine.
+pub fn save_fresh() {
+    let mut out = [UNWRITTEN; OUT_MOST];
+    let done = fresh_saved(&mut out);
+    write_saved(done, sum_of(&out));
+}
+
+// Saves into the first `room` bytes of the output, and writes the line.
+fn save_line(
+    c: Control,
+    settings: &[u16],
+    gprs: &[u32],
+    config: &[u32],
+    dest: &[u16],
+    marks: &[bool],
+    src_a: &[u32],
+    src_b: &[u32],
+    m: Made,
+    room: u32,
+    out: &mut [u8],
+) {
+    let n = least(room as usize, out.len());
+    let done = save(
+        c,
+        settings,
+        gprs,
+        config,
+        dest,
+        marks,
+        src_a,
+        src_b,
+        m,
+        &mut out[..n],
+    );
+    write_saved(done, sum_of(out));
+}
+
+// Makes a machine and saves it.
+fn save_made(
+    m: Made,
+    settings: &mut [u16],
+    gprs: &mut [u32],
+    config: &mut [u32],
+    dest: &mut [u16],
+    marks: &mut [bool],
+    src_a: &mut [u32],
+    src_b: &mut [u32],
+    room: u32,
+    out: &mut [u8],
+) {
+    let c = make(m, settings, gprs, config, dest, marks, src_a, src_b);
+    save_line(
+        c,
+        settings,
+        gprs,
+        config,
+        dest,
+        marks,
+        src_a,
+        src_b,
+        m,
+        room,
+        out,
+    );
+}
+
+// Saves one machine and loads over the other.
+fn run_made(saved: Made, room: u32, over: Made, loads: &[u8]) {
+    let mut settings = [0; 193];
+    let mut gprs = [0; 193];
+    let mut config = [0; 513];
+    let mut dest = [0; 16385];
+    let mut marks = [false; 1025];
+    let mut src_a = [0; 2049];
+    let mut src_b = [0; 2049];
+    let mut out = [UNWRITTEN; OUT_MOST];
+    let mut again = [0; IMAGE_BYTES];
+    save_made(
+        saved,
+        &mut settings,
+        &mut gprs,
+        &mut config,
+        &mut dest,
+        &mut marks,
+        &mut src_a,
+        &mut src_b,
+        room,
+        &mut out,
+    );
+    run_loads(
+        over,
+        &mut settings,
+        &mut gprs,
+        &mut config,
+        &mut dest,
+        &mut marks,
+        &mut src_a,
+        &mut src_b,
+        &mut out,
+        &mut again,
+        loads,
+    );
+}
+
+// Where the loads end of a group that says it has `count` of them: at the last whole load that is there.
+fn loads_end(from: usize, count: u32, len: usize) -> usize
+    requires { ⌜ from ≤ len ⌝ }
+    ensures { λ r. ⌜ (from ≤ r) × (r ≤ len) ⌝ }
+{
+    let there = (len - from) / 12;
+    if (count as usize) < there {
+        return from + count as usize * 12;
+    }
+    from + there * 12
+}
+
+// The group that starts at `at`; answers where the next one starts.
+pub fn run_group(input: &[u8], at: usize) -> usize
+    requires { ⌜ at + 56 ≤ length (now input) ⌝ }
+    ensures { λ r. ⌜ (at < r) × (r ≤ length (now (input .entry))) ⌝ }
+{
+    let saved = read_made(input, at);
+    let room = read(input, at + 24, 4);
+    let over = read_made(input, at + 28);
+    let count = read(input, at + 52, 4);
+    let from = at + 56;
+    let end = loads_end(from, count, input.len());
+    run_made(saved, room, over, &input[from..end]);
+    end
+}
