@@ -1,7 +1,8 @@
 #!/usr/bin/env python3
 """Write the input files of the examples: `python3 examples/make.py`.
 
-A kernel here is three lists of words, one a thread, and a budget of turns. Each file NAME.bin is what `./emulate` reads.
+A kernel here is three lists of words, one a thread, and a budget of turns. Each file NAME.bin is what `./emulate` reads, and
+saved_NAME.bin what `./replay` reads.
 """
 
 import os
@@ -11,6 +12,8 @@ HERE = os.path.dirname(os.path.abspath(__file__))
 sys.path.insert(0, os.path.join(HERE, '..', 'oracle'))
 
 import assemble as asm  # noqa: E402
+from image import image_of  # noqa: E402
+from machine import MATRIX, fresh  # noqa: E402
 
 B1, B5, B6 = 1 << 1, 1 << 5, 1 << 6  # block bits: sync, scalar and matrix words
 C8 = 1 << 8  # stall condition: SrcB's matrix bank is not Matrix's
@@ -37,6 +40,17 @@ deadlock = ([asm.atgetm(0), asm.nop(), asm.atgetm(1)], [asm.atgetm(1), asm.nop()
 # A word that the machine does not know, after work that stays: it ends refused 2 with thread 0 at the bad word.
 refused_word = ([asm.setdmareg(8, 0x1234), asm.mop(count=3)], [asm.nop()], [])
 
+
+
+def saved_transpose():
+    """A saved machine whose SrcB bank 0 is Matrix's and holds the numbers 0 to 1023; thread 1 transposes its face. In the image
+    that is printed rows 16 to 31 are turned: cell 1 of row 16 was 257 and is 272. It ends finished."""
+    machine = fresh()
+    machine.owners[2] = MATRIX
+    machine.src_b[0] = [[16 * row + column for column in range(16)] for row in range(64)]
+    return asm.replay_input(image_of(machine), [[], [asm.trnspsrcb()], []], 100, (0, 0, 0), 0)
+
+
 EXAMPLES = {
     'case_p': case_p,
     'handshake': handshake,
@@ -49,3 +63,5 @@ if __name__ == '__main__':
     for name, streams in EXAMPLES.items():
         with open(os.path.join(HERE, f'{name}.bin'), 'wb') as out:
             out.write(asm.emulate_input(streams, 100))
+    with open(os.path.join(HERE, 'saved_transpose.bin'), 'wb') as out:
+        out.write(saved_transpose())

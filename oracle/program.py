@@ -91,10 +91,11 @@ def emulate(data):
     return summary(run(fresh(), streams, START, budget), streams)
 
 
-def replay(data):
-    """Standard output of the whole-state program: an image, streams, budget and cursor in; lines and an image out."""
+def replay(data, load=read_image):
+    """Standard output of the whole-state program: an image, streams, budget and cursor in; lines and an image out.
+    The machine that the image loads to is run, and written."""
     image = data[:SIZE]
-    answer = read_image(image)
+    answer = load(image)
     if answer[0] == 'refused':
         return lines(f'bad image at {answer[2]}')
     machine = answer[1]

@@ -31,18 +31,17 @@ pub fn bytes_at_most(a: &[u8], most: u8) -> bool
     true
 }
 
-// The same of 32-bit words.
+// The same of 32-bit words. It looks at every word, so that it is compiled to wide steps.
 pub fn words_at_most(a: &[u32], most: u32) -> bool
     ensures { λ r. ⌜ r ≡ allAtMost most (now (a .entry)) ⌝ }
 {
+    let mut fit = true;
     let mut i = 0;
     while i < a.len() {
-        if a[i] > most {
-            return false;
-        }
+        fit = both(fit, a[i] <= most);
         i += 1;
     }
-    true
+    fit
 }
 
 // True of every slice, by its type: no word is over 32 bits. With it, a check of a whole machine states what the types give.

@@ -1,22 +1,19 @@
--- The two ways of the gate, where the thread's part and the wait's test go by names.
+-- The two ways of the gate, where the wait's test goes by a name.
 use Prim.Native.Nat.{ℕ}
 use mathlib.Core.Path.{_≡_, sym, ap, _∙_}
 use mathlib.Core.Bool.{Bool, true, false, cond}
-use Rattle.machine.specs.declared.control.Thread.{Thread}
 use Rattle.machine.specs.declared.control.Control.{Control}
 use Rattle.machine.specs.declared.refusal.StallCause.the-variants.{WaitHolds}
-use Rattle.machine.specs.Control.{threadAt}
+use Rattle.machine.specs.Control.{waitOf}
 use Rattle.words.specs.declared.instruction.Instruction.{Instruction}
 use Rattle.control.specs.declared.gate.Gate.{Gate}
 use Rattle.control.specs.declared.gate.Gate.the-variants.{Closed}
 use Rattle.control.specs.Gate.{waitStalls, wordGate, gateOf}
 
-module _ (c : Control) (t : ℕ) (i : Instruction) (th : Thread) (s : Bool) (e : th ≡ threadAt c t) (h : s ≡ waitStalls c (th .wait) i) where
+module _ (c : Control) (t : ℕ) (i : Instruction) (s : Bool) (h : s ≡ waitStalls c (waitOf c t) i) where
   by-test : gateOf c t i ≡ cond s (Closed WaitHolds) (wordGate c t i)
   unfolding gateOf
-  by-test =
-      ap (λ (x : Thread). cond (waitStalls c (x .wait) i) (Closed WaitHolds) (wordGate c t i)) (sym e)
-      ∙ ap (λ (b : Bool). cond b (Closed WaitHolds) (wordGate c t i)) (sym h)
+  by-test = ap (λ (b : Bool). cond b (Closed WaitHolds) (wordGate c t i)) (sym h)
 
   pub gate-closed : s ≡ true → Closed WaitHolds ≡ gateOf c t i
   gate-closed k = sym (by-test ∙ ap (λ (b : Bool). cond b (Closed WaitHolds) (wordGate c t i)) k)

@@ -1,3 +1,4 @@
 pub mod Masks
 pub mod Keeps
+pub mod Chosen
 pub mod Decides

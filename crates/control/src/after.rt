@@ -4,10 +4,10 @@ ghost use mathlib.Core.Bool.{true, cond};
 ghost use Prim.Native.Nat.{_<_};
 ghost use lib.ListN.{set};
 ghost use Rattle.machine.specs.declared.control.Wait.the-variants.{Clear};
-ghost use Rattle.machine.specs.Control.{withMutexes};
+ghost use Rattle.machine.specs.Control.{withMutexes, waitOf};
 ghost use Rattle.machine.specs.Formed.{controlFormed};
 ghost use Rattle.words.specs.InRange.{InRange, SyncInRange};
-ghost use Rattle.control.specs.After.{withWait, dropLifted, released, changeSemaphores, syncAfter, matrixAfter, wordAfter, controlAfter};
+ghost use Rattle.control.specs.After.{withWait, isWait, dropLifted, released, changeSemaphores, syncAfter, matrixAfter, wordAfter, controlAfter};
 use crate::banks;
 use crate::semaphores;
 use crate::semaphores::SemaphoreChange;
@@ -36,7 +36,6 @@ fn clear_unless(c: Control, t: usize, held: bool) -> Control
     with_wait(c, t, Wait::Clear)
 }
 
-// No store where there is no wait, the common case.
 fn drop_lifted(c: Control, t: usize, w: Wait) -> Control
     requires { ⌜ (controlFormed c ≡ true) × (t < 3) ⌝ }
     ensures { λ r. ⌜ r ≡ dropLifted c t w ⌝ }
@@ -55,12 +54,53 @@ fn drop_lifted(c: Control, t: usize, w: Wait) -> Control
     }
 }
 
+fn is_wait(w: Wait) -> bool
+    ensures { λ r. ⌜ r ≡ isWait w ⌝ }
+{
+    match w {
+        Wait::Clear => false,
+        Wait::OnStall {
+            block: _,
+            conditions: _,
+        } => true,
+        Wait::OnSemaphore {
+            block: _,
+            mask: _,
+            condition: _,
+        } => true,
+    }
+}
+
+// Whether a thread has a wait at all, chosen as a block mask is.
+fn has_wait(c: Control, t: usize) -> bool
+    ensures { λ r. ⌜ r ≡ isWait (waitOf c t) ⌝ }
+{
+    let x0 = c.t0;
+    let x1 = c.t1;
+    let x2 = c.t2;
+    let w0 = x0.wait;
+    let w1 = x1.wait;
+    let w2 = x2.wait;
+    let h0 = is_wait(w0);
+    let h1 = is_wait(w1);
+    let h2 = is_wait(w2);
+    if t == 0 {
+        return h0;
+    }
+    if t == 1 {
+        return h1;
+    }
+    h2
+}
+
 fn with_mutex(c: Control, m: usize, holder: u8) -> Control
     requires { ⌜ m < 8 ⌝ }
     ensures { λ r. ⌜ r ≡ withMutexes c (set (c .mutexes) m holder) ⌝ }
 {
+    let mut mutexes = c.mutexes;
+    mutexes[m] = holder;
     let mut d = c;
-    d.mutexes[m] = holder;
+    d.mutexes = mutexes;
     d
 }
 
@@ -68,7 +108,8 @@ fn release(c: Control, m: usize, t: usize) -> Control
     requires { ⌜ (m < 8) × (t < 3) ⌝ }
     ensures { λ r. ⌜ r ≡ withMutexes c (released (c .mutexes) m t) ⌝ }
 {
-    let holder = c.mutexes[m];
+    let mutexes = c.mutexes;
+    let holder = mutexes[m];
     if holder == t as u8 + 1 {
         return with_mutex(c, m, 0);
     }
@@ -159,7 +200,10 @@ pub fn control_after(c: Control, t: usize, i: Instruction) -> Control
     requires { ⌜ (controlFormed c ≡ true) × (t < 3) × InRange i ⌝ }
     ensures { λ r. ⌜ r ≡ controlAfter c t i ⌝ }
 {
-    let th = machine::control::thread_of(c, t);
-    let w = th.wait;
-    word_after(drop_lifted(c, t, w), t, i)
+    if has_wait(c, t) {
+        let th = machine::control::thread_of(c, t);
+        let w = th.wait;
+        return word_after(drop_lifted(c, t, w), t, i);
+    }
+    word_after(c, t, i)
 }

@@ -13,11 +13,15 @@ fn give_to_matrix(c: Control, file: usize) -> Control
     requires { ⌜ (controlFormed c ≡ true) × (file < 2) ⌝ }
     ensures { λ r. ⌜ r ≡ giveToMatrix c file ⌝ }
 {
-    let p = c.pointers[2 + file];
+    let mut pointers = c.pointers;
+    let mut owners = c.owners;
+    let p = pointers[2 + file];
     let bank = p as usize;
+    owners[2 * file + bank] = 1;
+    pointers[2 + file] = 1 - p;
     let mut d = c;
-    d.owners[2 * file + bank] = 1;
-    d.pointers[2 + file] = 1 - p;
+    d.owners = owners;
+    d.pointers = pointers;
     d
 }
 
@@ -26,14 +30,18 @@ fn give_to_unpackers(c: Control, file: usize, keep: bool) -> Control
     requires { ⌜ (controlFormed c ≡ true) × (file < 2) ⌝ }
     ensures { λ r. ⌜ r ≡ giveToUnpackers c file keep ⌝ }
 {
-    let p = c.pointers[file];
+    let mut pointers = c.pointers;
+    let mut owners = c.owners;
+    let p = pointers[file];
     let bank = p as usize;
+    owners[2 * file + bank] = 0;
     let mut d = c;
-    d.owners[2 * file + bank] = 0;
+    d.owners = owners;
     if keep {
         return d;
     }
-    d.pointers[file] = 1 - p;
+    pointers[file] = 1 - p;
+    d.pointers = pointers;
     d
 }
 

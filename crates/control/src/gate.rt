@@ -2,10 +2,13 @@
 ghost use mathlib.Core.Path.{_≡_};
 ghost use mathlib.Core.Bool.{true, cond};
 ghost use Prim.Native.Nat.{_<_};
+ghost use lib.Dec.{eqb};
 ghost use Rattle.control.specs.declared.gate.Gate.the-variants.{Open, Closed};
+ghost use Rattle.machine.specs.Control.{waitOf};
 ghost use Rattle.machine.specs.Formed.{controlFormed};
 ghost use Rattle.words.specs.InRange.{InRange, SyncInRange};
 ghost use Rattle.control.specs.Gate.{blockOf, namedBy, waitStalls, mutexOpen, syncGate, matrixGate, wordGate, gateOf};
+ghost use Rattle.control.specs.Waits.{holdsNow};
 use crate::waits;
 use machine::control::Control;
 use machine::control::Wait;
@@ -48,12 +51,47 @@ fn named_by(block: u16, i: Instruction) -> bool
     }
 }
 
-fn wait_stalls(c: Control, w: Wait, i: Instruction) -> bool
-    requires { ⌜ controlFormed c ≡ true ⌝ }
-    ensures { λ r. ⌜ r ≡ waitStalls c w i ⌝ }
+// The block mask of a thread's wait. Three numbers are at hand and one is chosen, so that the control part of a run need not
+// be put into memory to find a thread in it.
+fn thread_block(c: Control, t: usize) -> u16
+    ensures { λ r. ⌜ r ≡ blockOf (waitOf c t) ⌝ }
 {
-    if named_by(block_of(w), i) {
-        return waits::holds(c, w);
+    let x0 = c.t0;
+    let x1 = c.t1;
+    let x2 = c.t2;
+    let w0 = x0.wait;
+    let w1 = x1.wait;
+    let w2 = x2.wait;
+    choose(t, block_of(w0), block_of(w1), block_of(w2))
+}
+
+fn choose(t: usize, b0: u16, b1: u16, b2: u16) -> u16
+    ensures { λ r. ⌜ r ≡ cond (eqb t 0) b0 (cond (eqb t 1) b1 b2) ⌝ }
+{
+    if t == 0 {
+        return b0;
+    }
+    if t == 1 {
+        return b1;
+    }
+    b2
+}
+
+fn thread_holds(c: Control, t: usize) -> bool
+    requires { ⌜ (controlFormed c ≡ true) × (t < 3) ⌝ }
+    ensures { λ r. ⌜ r ≡ holdsNow c (waitOf c t) ⌝ }
+{
+    let th = machine::control::thread_of(c, t);
+    let w = th.wait;
+    waits::holds(c, w)
+}
+
+fn wait_stalls(c: Control, t: usize, i: Instruction) -> bool
+    requires { ⌜ (controlFormed c ≡ true) × (t < 3) ⌝ }
+    ensures { λ r. ⌜ r ≡ waitStalls c (waitOf c t) i ⌝ }
+{
+    if named_by(thread_block(c, t), i) {
+        return thread_holds(c, t);
     }
     false
 }
@@ -81,7 +119,8 @@ fn sync_gate(c: Control, t: usize, s: SyncWord) -> Gate
     match s {
         SyncWord::AtGetM { mutex } => {
             let m = mutex as usize;
-            let holder = c.mutexes[m];
+            let mutexes = c.mutexes;
+            let holder = mutexes[m];
             open_if(mutex_open(holder, t), StallCause::MutexHeld)
         }
         SyncWord::AtRelM { mutex: _ } => Gate::Open,
@@ -148,9 +187,7 @@ pub fn may_pass(c: Control, t: usize, i: Instruction) -> Gate
     requires { ⌜ (controlFormed c ≡ true) × (t < 3) × InRange i ⌝ }
     ensures { λ r. ⌜ r ≡ gateOf c t i ⌝ }
 {
-    let th = machine::control::thread_of(c, t);
-    let w = th.wait;
-    if wait_stalls(c, w, i) {
+    if wait_stalls(c, t, i) {
         return Gate::Closed(StallCause::WaitHolds);
     }
     word_gate(c, t, i)

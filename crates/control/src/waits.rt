@@ -13,8 +13,10 @@ pub fn unpackers_own(c: Control, file: usize) -> bool
     requires { ⌜ (controlFormed c ≡ true) × (file < 2) ⌝ }
     ensures { λ r. ⌜ r ≡ unpackersOwn c file ⌝ }
 {
-    let bank = c.pointers[2 + file] as usize;
-    c.owners[2 * file + bank] == 0
+    let pointers = c.pointers;
+    let owners = c.owners;
+    let bank = pointers[2 + file] as usize;
+    owners[2 * file + bank] == 0
 }
 
 // Whether Matrix owns the bank at a source file's matrix pointer. Internal.
@@ -22,8 +24,10 @@ pub fn matrix_owns(c: Control, file: usize) -> bool
     requires { ⌜ (controlFormed c ≡ true) × (file < 2) ⌝ }
     ensures { λ r. ⌜ r ≡ matrixOwns c file ⌝ }
 {
-    let bank = c.pointers[file] as usize;
-    c.owners[2 * file + bank] == 1
+    let pointers = c.pointers;
+    let owners = c.owners;
+    let bank = pointers[file] as usize;
+    owners[2 * file + bank] == 1
 }
 
 // Whether the condition is named and its bank is not owned as it should be.

@@ -1,14 +1,15 @@
 // The program `emulate`, from its input's bytes to its output's.
 ghost use mathlib.Core.Path.{_≡_};
-ghost use Prim.Native.Nat.{_+_, _≤_};
+ghost use Prim.Native.Nat.{_≤_};
 ghost use lib.ListN.{length};
 ghost use Rattle.bits.specs.Overwrite.{Wrote};
 ghost use Rattle.run.specs.Streams.{streams};
-ghost use Rattle.records.specs.declared.ScriptRead.the-variants.{Sound};
-ghost use Rattle.records.specs.Records.{scriptOf};
-ghost use Rattle.emulation.specs.Emulation.{freshRun, streamsOf, linesOf, emulationOf};
-use records::Script;
-use records::ScriptRead;
+ghost use Rattle.records.specs.declared.script.ScriptRead.the-variants.{Sound};
+ghost use Rattle.records.specs.Counts.{streamsOf};
+ghost use Rattle.records.specs.Script.{scriptOf};
+ghost use Rattle.emulation.specs.Emulation.{freshRun, linesOf, emulationOf, LongInputs};
+use records::script::Script;
+use records::script::ScriptRead;
 use run::cursor::Cursor;
 use run::ending::Ending;
 
@@ -83,31 +84,37 @@ fn run_words(
     s2: &mut [u32],
     out: &mut [u8],
 ) -> usize
-    requires { ⌜ (scriptOf (now input) ≡ Sound script) × (length (now s0) ≡ script .n0) × (length (now s1) ≡ script .n1) × (length (now s2) ≡ script .n2) × (400 ≤ length (now out)) ⌝ }
-    ensures { λ r. ⌜ Wrote (now (out .entry)) 0 (linesOf (freshRun (streamsOf (now (input .entry)) script) (script .budget)) script) (now (out .exit)) r ⌝ }
+    requires { ⌜ (scriptOf (now input) ≡ Sound script) × (length (now s0) ≡ script .counts .n0) × (length (now s1) ≡ script .counts .n1) × (length (now s2) ≡ script .counts .n2) × (400 ≤ length (now out)) ⌝ }
+    ensures { λ r. ⌜ Wrote (now (out .entry)) 0 (linesOf (freshRun (streamsOf (now (input .entry)) (script .counts)) (script .budget)) (script .counts)) (now (out .exit)) r ⌝ }
     ensures short { λ r. ⌜ r ≤ 400 ⌝ }
 {
-    let n0 = script.n0;
-    let n1 = script.n1;
-    let n2 = script.n2;
-    format::run::read_words(input, 6, 4, s0);
-    format::run::read_words(input, 12 + 4 * n0, 4, s1);
-    format::run::read_words(input, 18 + 4 * n0 + 4 * n1, 4, s2);
+    let counts = script.counts;
+    records::words::read_streams(input, counts, s0, s1, s2);
     let told = run_fresh(&s0[..], &s1[..], &s2[..], script.budget);
     let answer = told.answer;
     let cursor = told.cursor;
-    report::put_run_lines(out, 0, answer, told.turns, cursor, n0, n1, n2)
+    report::put_run_lines(
+        out,
+        0,
+        answer,
+        told.turns,
+        cursor,
+        counts.n0,
+        counts.n1,
+        counts.n2,
+    )
 }
 
 // The lines of a sound input. Internal: the script is the input's, and there is room.
 fn run_script(input: &[u8], script: Script, out: &mut [u8]) -> usize
     requires { ⌜ (scriptOf (now input) ≡ Sound script) × (400 ≤ length (now out)) ⌝ }
-    ensures { λ r. ⌜ Wrote (now (out .entry)) 0 (linesOf (freshRun (streamsOf (now (input .entry)) script) (script .budget)) script) (now (out .exit)) r ⌝ }
+    ensures { λ r. ⌜ Wrote (now (out .entry)) 0 (linesOf (freshRun (streamsOf (now (input .entry)) (script .counts)) (script .budget)) (script .counts)) (now (out .exit)) r ⌝ }
     ensures short { λ r. ⌜ r ≤ 400 ⌝ }
 {
-    let n0 = script.n0;
-    let n1 = script.n1;
-    let n2 = script.n2;
+    let counts = script.counts;
+    let n0 = counts.n0;
+    let n1 = counts.n1;
+    let n2 = counts.n2;
     let mut s0 = [0u32; THREAD_WORDS];
     let mut s1 = [0u32; THREAD_WORDS];
     let mut s2 = [0u32; THREAD_WORDS];
@@ -127,9 +134,14 @@ pub fn emulate(input: &[u8], out: &mut [u8]) -> usize
     ensures { λ r. ⌜ Wrote (now (out .entry)) 0 (emulationOf (now (input .entry))) (now (out .exit)) r ⌝ }
     ensures short { λ r. ⌜ r ≤ 400 ⌝ }
 {
-    let read = records::read_script(input);
+    let read = records::script::read_script(input);
     match read {
         ScriptRead::BadAt(at) => report::put_number_line(out, 0, b"bad record at ", at),
         ScriptRead::Sound(script) => run_script(input, script, out),
     }
 }
+
+// What holds of every input: none is too long.
+pub fn promises()
+    ensures long { λ _. ⌜ LongInputs ⌝ }
+{}

@@ -1,88 +1,81 @@
--- What a sound input has: at most 1,024 words a thread, and exactly the bytes of its records.
-use Prim.Native.Nat.{ℕ, _+_, _*_, _/_, _%_, _≤_}
-use mathlib.Core.Path.{_≡_, refl, sym, ap, _∙_}
-use mathlib.Core.Bool.{Bool, true, false, cond}
+-- What the records of a sound input have: the counts of their words.
+use Prim.Native.Nat.{ℕ, _+_, _≤_}
+use mathlib.Core.Path.{_≡_, refl, subst}
 use mathlib.Core.List.{List}
 use native.Mathlib.Omega.{arith}
-use lib.Dec.{leb, eqb}
+use lib.Dec.{eqb}
 use lib.ListN.{length, drop}
-use borrow.Author.Tests.{leb-true, eqb-true}
-use Rattle.bits.proofs.Choices.{cond-both, cond-cases}
-use Rattle.records.specs.declared.WordsRecord.{WordsRecord}
-use Rattle.records.specs.declared.WordsRecord.the-variants.{Words, NoWords}
-use Rattle.records.specs.declared.BudgetRecord.{BudgetRecord}
-use Rattle.records.specs.declared.BudgetRecord.the-variants.{Budget, NoBudget}
-use Rattle.records.specs.declared.Script.{Script}
-use Rattle.records.specs.declared.ScriptRead.{ScriptRead}
-use Rattle.records.specs.declared.ScriptRead.the-variants.{Sound, BadAt}
-use Rattle.records.specs.Records.{recordKind, bodyLength, kindAndBody, bodyOfWords, wordsRecordOf, budgetRecordOf, past, ended, afterThird, afterSecond, afterFirst, fromStart, scriptOf, FewWords}
+use Rattle.bits.proofs.Choices.{cond-both}
+use Rattle.machine.specs.Sizes.{budgetMost, wordMost}
+use Rattle.records.specs.declared.counts.Counts.{Counts}
+use Rattle.records.specs.declared.counts.CountsRead.{CountsRead}
+use Rattle.records.specs.declared.counts.CountsRead.the-variants.{Counted, NotCounted}
+use Rattle.records.specs.declared.fixed.BudgetRecord.{BudgetRecord}
+use Rattle.records.specs.declared.fixed.BudgetRecord.the-variants.{Budget, NoBudget}
+use Rattle.records.specs.declared.fixed.CursorRecord.{CursorRecord}
+use Rattle.records.specs.declared.fixed.CursorRecord.the-variants.{Place, NoPlace}
+use Rattle.records.specs.declared.script.Script.{Script}
+use Rattle.records.specs.declared.script.ScriptRead.{ScriptRead}
+use Rattle.records.specs.declared.script.ScriptRead.the-variants.{Sound, BadAt}
+use Rattle.records.specs.declared.replay_script.ReplayScript.{ReplayScript}
+use Rattle.records.specs.declared.replay_script.ReplayRead.{ReplayRead}
+use Rattle.records.specs.declared.replay_script.ReplayRead.the-variants.{Whole, Faulty}
+use Rattle.records.specs.Counts.{countsOf, wordsEnd}
+use Rattle.records.specs.Fixed.{budgetRecordOf, cursorRecordOf}
+use Rattle.records.specs.Script.{afterBudget, afterWords, bodyMost, scriptOf}
+use Rattle.records.specs.ReplayScript.{afterPlace, afterAnyBudget, afterStreams, streamBytes, replayScriptOf}
+use Rattle.records.proofs.Fits.{CountFacts, count-facts, count-near}
 
-pub record SoundFacts (bs : List ℕ) (s : Script) : Type 0 where
-  pub few0 : s .n0 ≤ 1024
-  pub few1 : s .n1 ≤ 1024
-  pub few2 : s .n2 ≤ 1024
-  pub long : length bs ≡ 28 + 4 * s .n0 + 4 * s .n1 + 4 * s .n2
+-- the counts that were read are the script's
+abbrev Has : Counts → ScriptRead → Type 0
+Has c (Sound s) = c ≡ s .counts
+Has c (BadAt n) = Unit
 
-few-words : (kind : ℕ) (bs : List ℕ) → FewWords (wordsRecordOf kind bs)
-unfolding wordsRecordOf
-few-words kind bs =
-    let n = bodyLength bs in
-    cond-both FewWords (leb 6 (length bs))
-    (cond-both FewWords (eqb (recordKind bs) kind)
-    (cond-cases FewWords (leb n 4096)
-    (λ e. cond-both FewWords (eqb (n % 4) 0) (cond-both FewWords (leb (6 + n) (length bs)) (omega (arith, leb-true n 4096 e)) tt) tt)
-    (λ e. tt)) tt) tt
+has-budget : (bs : List ℕ) (c : Counts) (at : ℕ) (r : BudgetRecord) → Has c (afterBudget bs c at r)
+has-budget bs c at (Budget b) = cond-both (Has c) (eqb (length bs) (at + 10)) refl tt
+has-budget bs c at NoBudget = tt
 
--- the end of the chain: what was read so far is in the script, and the input ends with record 35
-record Rest (bs : List ℕ) (n0 n1 n2 at : ℕ) (s : Script) : Type 0 where
-  same0 : s .n0 ≡ n0
-  same1 : s .n1 ≡ n1
-  same2 : s .n2 ≡ n2
-  size : length bs ≡ at + 10
+sound-of : (bs : List ℕ) (r : CountsRead) (s : Script) → countsOf bodyMost bs ≡ r → afterWords bs r ≡ Sound s → CountFacts bodyMost bs (s .counts)
+sound-of bs (Counted c) s p e =
+    let h : c ≡ s .counts = subst (Has c) e (has-budget bs c (wordsEnd c) (budgetRecordOf budgetMost (drop (wordsEnd c) bs))) in
+    subst (CountFacts bodyMost bs) h (count-facts bodyMost bs c p)
+sound-of bs (NotCounted n) s p e = let z : _≡_ {A = ℕ} 0 1 = cc in absurd (omega arith)
 
-rest-ended : (bs : List ℕ) (n0 n1 n2 at b : ℕ) (s : Script) → ended bs (record { n0 = n0; n1 = n1; n2 = n2; budget = b }) at ≡ Sound s → Rest bs n0 n1 n2 at s
-rest-ended bs n0 n1 n2 at b s e = go (eqb (length bs) (at + 10)) refl e
-  where
-    made : Script
-    made = record { n0 = n0; n1 = n1; n2 = n2; budget = b }
-
-    go : (t : Bool) → eqb (length bs) (at + 10) ≡ t → cond t (Sound (record { n0 = n0; n1 = n1; n2 = n2; budget = b })) (BadAt (at + 10)) ≡ Sound s → Rest bs n0 n1 n2 at s
-    go true u h =
-        let f : _≡_ {A = Script} (record { n0 = n0; n1 = n1; n2 = n2; budget = b }) s = cc in
-        record {
-          same0 = sym (ap (λ (x : Script). x .n0) f);
-          same1 = sym (ap (λ (x : Script). x .n1) f);
-          same2 = sym (ap (λ (x : Script). x .n2) f);
-          size = eqb-true (length bs) (at + 10) u;
-        }
-    go false u h = let z : _≡_ {A = ℕ} 0 1 = cc in absurd (omega arith)
-
-rest-third : (bs : List ℕ) (n0 n1 n2 at : ℕ) (r : BudgetRecord) (s : Script) → afterThird bs n0 n1 n2 at r ≡ Sound s → Rest bs n0 n1 n2 at s
-rest-third bs n0 n1 n2 at (Budget b) s e = rest-ended bs n0 n1 n2 at b s e
-rest-third bs n0 n1 n2 at NoBudget s e = let z : _≡_ {A = ℕ} 0 1 = cc in absurd (omega arith)
-
-facts-second : (bs : List ℕ) (n0 n1 at : ℕ) (r : WordsRecord) (s : Script) → n0 ≤ 1024 → n1 ≤ 1024 → at ≡ 12 + 4 * n0 + 4 * n1 → FewWords r →
-    afterSecond bs n0 n1 at r ≡ Sound s → SoundFacts bs s
-facts-second bs n0 n1 at (Words n2) s h0 h1 p f e =
-    let k = rest-third bs n0 n1 n2 (past at n2) (budgetRecordOf (drop (past at n2) bs)) s e in
-    record {
-      few0 = rw (k .same0) h0;
-      few1 = rw (k .same1) h1;
-      few2 = rw (k .same2) f;
-      long = rw (k .size, k .same0, k .same1, k .same2, p) (omega arith);
-    }
-facts-second bs n0 n1 at NoWords s h0 h1 p f e = let z : _≡_ {A = ℕ} 0 1 = cc in absurd (omega arith)
-
-facts-first : (bs : List ℕ) (n0 at : ℕ) (r : WordsRecord) (s : Script) → n0 ≤ 1024 → at ≡ 6 + 4 * n0 → FewWords r → afterFirst bs n0 at r ≡ Sound s → SoundFacts bs s
-facts-first bs n0 at (Words n1) s h0 p f e =
-    facts-second bs n0 n1 (past at n1) (wordsRecordOf 34 (drop (past at n1) bs)) s h0 f (omega arith) (few-words 34 (drop (past at n1) bs)) e
-facts-first bs n0 at NoWords s h0 p f e = let z : _≡_ {A = ℕ} 0 1 = cc in absurd (omega arith)
-
-facts-start : (bs : List ℕ) (r : WordsRecord) (s : Script) → FewWords r → fromStart bs r ≡ Sound s → SoundFacts bs s
-facts-start bs (Words n0) s f e =
-    facts-first bs n0 (past 0 n0) (wordsRecordOf 33 (drop (past 0 n0) bs)) s f (omega arith) (few-words 33 (drop (past 0 n0) bs)) e
-facts-start bs NoWords s f e = let z : _≡_ {A = ℕ} 0 1 = cc in absurd (omega arith)
-
-pub sound-facts : (bs : List ℕ) (s : Script) → scriptOf bs ≡ Sound s → SoundFacts bs s
+pub sound-facts : (bs : List ℕ) (s : Script) → scriptOf bs ≡ Sound s → CountFacts bodyMost bs (s .counts)
 unfolding scriptOf
-sound-facts bs s e = facts-start bs (wordsRecordOf 32 bs) s (few-words 32 bs) e
+sound-facts bs s e = sound-of bs (countsOf bodyMost bs) s refl e
+
+-- the same of `replay`
+abbrev Holds : Counts → ReplayRead → Type 0
+Holds c (Whole s) = c ≡ s .counts
+Holds c (Faulty n) = n ≤ wordsEnd c + 32
+
+holds-place : (bs : List ℕ) (c : Counts) (b : ℕ) (r : CursorRecord) → Holds c (afterPlace bs c b (wordsEnd c + 10) r)
+holds-place bs c b (Place p) = cond-both (Holds c) (eqb (length bs) (wordsEnd c + 10 + 22)) refl (omega arith)
+holds-place bs c b NoPlace = omega arith
+
+holds-budget : (bs : List ℕ) (c : Counts) (r : BudgetRecord) → Holds c (afterAnyBudget bs c (wordsEnd c) r)
+holds-budget bs c (Budget b) = holds-place bs c b (cursorRecordOf (drop (wordsEnd c + 10) bs))
+holds-budget bs c NoBudget = omega arith
+
+whole-of : (bs : List ℕ) (r : CountsRead) (s : ReplayScript) → countsOf streamBytes bs ≡ r → afterStreams bs r ≡ Whole s → CountFacts streamBytes bs (s .counts)
+whole-of bs (Counted c) s p e =
+    let h : c ≡ s .counts = subst (Holds c) e (holds-budget bs c (budgetRecordOf wordMost (drop (wordsEnd c) bs))) in
+    subst (CountFacts streamBytes bs) h (count-facts streamBytes bs c p)
+whole-of bs (NotCounted n) s p e = let z : _≡_ {A = ℕ} 0 1 = cc in absurd (omega arith)
+
+pub whole-facts : (bs : List ℕ) (s : ReplayScript) → replayScriptOf bs ≡ Whole s → CountFacts streamBytes bs (s .counts)
+unfolding replayScriptOf
+whole-facts bs s e = whole-of bs (countsOf streamBytes bs) s refl e
+
+-- and where they are bad, that is within reach
+near-of : (bs : List ℕ) (r : CountsRead) (n : ℕ) → countsOf streamBytes bs ≡ r → afterStreams bs r ≡ Faulty n → n ≤ 1000000
+near-of bs (Counted c) n p e =
+    let h : n ≤ wordsEnd c + 32 = subst (Holds c) e (holds-budget bs c (budgetRecordOf wordMost (drop (wordsEnd c) bs))) in
+    let f = count-facts streamBytes bs c p in
+    omega arith
+near-of bs (NotCounted k) n p e = let h : k ≡ n = cc in let g = count-near streamBytes bs k p in omega arith
+
+pub faulty-near : (bs : List ℕ) (n : ℕ) → replayScriptOf bs ≡ Faulty n → n ≤ 1000000
+unfolding replayScriptOf
+faulty-near bs n e = near-of bs (countsOf streamBytes bs) n refl e

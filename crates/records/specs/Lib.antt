@@ -1,1 +1,5 @@
-pub mod Records
+pub mod Head
+pub mod Counts
+pub mod Fixed
+pub mod Script
+pub mod ReplayScript

@@ -1,47 +1,60 @@
-use Rattle.emulation.proofs.Printed.{printed, words-read}
-use Rattle.emulation.specs.Emulation.{body1, body2}
-use Rattle.bits.specs.Overwrite.{Wrote}
-use mathlib.Core.List.{List}
-use mathlib.Core.Path.{_≡_, refl, subst}
-use Prim.Native.Nat.{ℕ, _+_, _*_}
-use Rattle.records.proofs.Sound.{sound-facts}
 use native.Mathlib.Omega.{arith}
+use Rattle.records.proofs.Sound.{sound-facts}
+use Prim.Native.Nat.{ℕ}
+use mathlib.Core.Path.{subst}
+use mathlib.Core.List.{List}
+use Rattle.bits.specs.Overwrite.{Wrote}
+use Rattle.emulation.proofs.Printed.{printed}
 use borrow.Author.Needs.{needs}
 use Rattle.emulation.proofs.run_words.Statement.{statement}
 use Rattle.emulation.proofs.run_words.Tie as tie
+use Rattle.emulation.proofs.run_words.Reads as reads
+use Rattle.emulation.proofs.run_words.Lts as lts
+use Rattle.emulation.proofs.run_fresh.Reads as run-fresh-reads
+use Rattle.records.proofs.words.read_streams.Reads as read-streams-reads
+use Rattle.report.proofs.put_run_lines.Reads as put-run-lines-reads
 
-read-words-requires : tie.Need-read-words-requires
-read-words-requires c κs = let f = sound-facts _ _ (c .before .before .before .before .before .before .pre .0) in (omega arith, omega arith, omega arith)
+-- src/lib.rt:92:5
+read-streams-requires : tie.Need-read-streams-requires
+read-streams-requires c κs = let f = sound-facts _ _ (c .before .before .before .before .before .before .before .before .before .pre .0) in (f .there, c .before .before .before .before .before .before .before .before .before .pre .1, c .before .before .before .before .before .before .before .before .before .pre .2, c .before .before .before .before .before .before .before .before .before .pre .3)
 
-read-words-requires-2 : tie.Need-read-words-requires-2
-read-words-requires-2 c κs = let f = sound-facts _ _ (c .before .before .before .before .before .before .before .before .before .before .pre .0) in (omega arith, omega arith, omega arith)
+-- src/lib.rt:93:9
+run-fresh-requires : tie.Need-run-fresh-requires
+run-fresh-requires c κs = search needs
 
-add-read-words-3 : tie.Need-add-read-words-3
-add-read-words-3 c = let f = sound-facts _ _ (c .before .before .before .before .before .before .before .before .before .before .before .before .before .pre .0) in omega arith
+-- src/lib.rt:96:5
+put-run-lines-requires : tie.Need-put-run-lines-requires
+put-run-lines-requires c κs = search needs
 
-read-words-requires-3 : tie.Need-read-words-requires-3
-read-words-requires-3 c κs = let f = sound-facts _ _ (c .before .before .before .before .before .before .before .before .before .before .before .before .before .before .pre .0) in (omega arith, omega arith, omega arith)
+-- src/lib.rt:79:1
+same-length : tie.Need-same-length
+same-length c = search needs
 
+-- src/lib.rt:79:1
+same-length-2 : tie.Need-same-length-2
+same-length-2 c = search needs
+
+-- src/lib.rt:79:1
+same-length-3 : tie.Need-same-length-3
+same-length-3 c = search needs
+
+-- src/lib.rt:79:1
+same-length-4 : tie.Need-same-length-4
+same-length-4 c = search needs
+
+-- src/lib.rt:79:1
 returns : tie.Need-returns
-returns c = let s = c .before .before .before .before .before .before .before .before .before .before .before .before .before .before .before .before .before .before .before .before .before .before .before .before .before .before .args .script in let bs = c .before .before .before .before .before .before .before .before .before .before .before .before .before .before .before .before .before .before .before .before .before .before .before .before .before .before .args .input .now in let e1 : 12 + 4 * s .n0 ≡ body1 s = omega arith in let e2 : 18 + 4 * s .n0 + 4 * s .n1 ≡ body2 s = omega arith in let w0 = words-read _ bs 6 6 _ (s .n0) (c .before .before .before .before .before .before .before .before .before .before .before .before .before .before .before .before .before .before .before .read-words .ensures) (c .before .before .before .before .before .before .before .before .before .before .before .before .before .before .before .before .before .before .before .before .before .before .before .before .before .before .pre .1) refl in let w1 = words-read _ bs (12 + 4 * s .n0) (body1 s) _ (s .n1) (c .before .before .before .before .before .before .before .before .before .before .before .before .before .before .before .read-words2 .ensures) (c .before .before .before .before .before .before .before .before .before .before .before .before .before .before .before .before .before .before .before .before .before .before .before .before .before .before .pre .2) e1 in let w2 = words-read _ bs (18 + 4 * s .n0 + 4 * s .n1) (body2 s) _ (s .n2) (c .before .before .before .before .before .before .before .before .before .before .before .read-words3 .ensures) (c .before .before .before .before .before .before .before .before .before .before .before .before .before .before .before .before .before .before .before .before .before .before .before .before .before .before .pre .3) e2 in (subst (λ (l : List ℕ). Wrote (c .before .before .before .before .before .before .before .before .before .before .before .before .before .before .before .before .before .before .before .before .before .before .before .before .before .before .args .out .now) 0 l (c .before .before .put-run-lines .last .0) (c .before .before .put-run-lines .result)) (printed bs s _ _ _ (c .before .before .before .before .before .run-fresh .result .answer) (c .before .before .before .before .before .run-fresh .result .turns) (c .before .before .before .before .before .run-fresh .result .cursor) w0 w1 w2 (record { answer = c .before .before .before .before .before .run-fresh .ensures .0; turns = c .before .before .before .before .before .run-fresh .ensures .1 .0; cursor = c .before .before .before .before .before .run-fresh .ensures .1 .1 })) (c .before .before .put-run-lines .ensures .0), omega arith)
+returns c = let s = c .before .before .before .before .before .before .before .before .before .before .before .before .before .before .before .before .before .before .before .before .before .before .before .before .before .args .script in let bs = c .before .before .before .before .before .before .before .before .before .before .before .before .before .before .before .before .before .before .before .before .before .before .before .before .before .args .input .now in let f = c .before .before .before .before .before .run-fresh in (subst (λ (l : List ℕ). Wrote (c .before .before .before .before .before .before .before .before .before .before .before .before .before .before .before .before .before .before .before .before .before .before .before .before .before .args .out .now) 0 l (c .before .before .put-run-lines .last .0) (c .before .before .put-run-lines .result)) (printed bs s _ (f .result .answer) (f .result .turns) (f .result .cursor) (c .before .before .before .before .before .before .before .before .before .before .before .before .before .before .before .read-streams .ensures) (record { answer = f .ensures .0; turns = f .ensures .1 .0; cursor = f .ensures .1 .1 })) (c .before .before .put-run-lines .ensures .0), omega arith)
 
 pub run-words-spec : {M : Type 1} → statement M
 run-words-spec =
     tie.close
     (tie.spec
-    read-words-requires
-    (λ c. search needs)
-    (λ c. search needs)
-    read-words-requires-2
-    (λ c. search needs)
-    (λ c. search needs)
-    (λ c. search needs)
-    add-read-words-3
-    read-words-requires-3
-    (λ c κs. search needs)
-    (λ c κs. search needs)
-    (λ c. search needs)
-    (λ c. search needs)
-    (λ c. search needs)
-    (λ c. search needs)
+    read-streams-requires
+    run-fresh-requires
+    put-run-lines-requires
+    same-length
+    same-length-2
+    same-length-3
+    same-length-4
     returns)

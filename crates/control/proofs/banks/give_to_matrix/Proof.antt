@@ -7,14 +7,14 @@ use borrow.Author.Needs.{needs}
 use Rattle.control.proofs.banks.give_to_matrix.Statement.{statement}
 use Rattle.control.proofs.banks.give_to_matrix.Tie as tie
 
-add-d : tie.Need-add-d
-add-d c = omega (arith, pointer-at (c .before .args .t1) (2 + c .before .args .file) (c .before .pre .0))
+add-owners : tie.Need-add-owners
+add-owners c = omega (arith, pointer-at (c .before .before .args .c) (2 + c .before .before .args .file) (c .before .before .pre .0))
 
-element-write-d : tie.Need-element-write-d
-element-write-d c = omega (arith, pointer-at (c .before .args .t1) (2 + c .before .args .file) (c .before .pre .0))
+array-write-owners : tie.Need-array-write-owners
+array-write-owners c = omega (arith, pointer-at (c .before .before .args .c) (2 + c .before .before .args .file) (c .before .before .pre .0))
 
-sub-d : tie.Need-sub-d
-sub-d c = pointer-at (c .before .args .t1) (2 + c .before .args .file) (c .before .pre .0)
+sub-pointers : tie.Need-sub-pointers
+sub-pointers c = pointer-at (c .before .before .args .c) (2 + c .before .before .args .file) (c .before .before .pre .0)
 
 returns : tie.Need-returns
 unfolding giveToMatrix
@@ -28,9 +28,9 @@ give-to-matrix-spec =
     (λ c. search needs)
     (λ c. search needs)
     (λ c. search needs)
-    add-d
-    element-write-d
-    sub-d
+    add-owners
+    array-write-owners
+    sub-pointers
     (λ c. search needs)
     (λ c. search needs)
     returns)

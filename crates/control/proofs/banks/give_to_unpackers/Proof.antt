@@ -5,18 +5,18 @@ use borrow.Author.Needs.{needs}
 use Rattle.control.proofs.banks.give_to_unpackers.Statement.{statement}
 use Rattle.control.proofs.banks.give_to_unpackers.Tie as tie
 
-add-d : tie.Need-add-d
-add-d c = omega (arith, pointer-at (c .before .args .t1) (c .before .args .file) (c .before .pre .0))
+add-owners : tie.Need-add-owners
+add-owners c = omega (arith, pointer-at (c .before .before .args .c) (c .before .before .args .file) (c .before .before .pre .0))
 
-element-write-d : tie.Need-element-write-d
-element-write-d c = omega (arith, pointer-at (c .before .args .t1) (c .before .args .file) (c .before .pre .0))
+array-write-owners : tie.Need-array-write-owners
+array-write-owners c = omega (arith, pointer-at (c .before .before .args .c) (c .before .before .args .file) (c .before .before .pre .0))
 
 returns : tie.Need-returns
 unfolding giveToUnpackers
 returns c = rw (c .if1 .taken)
 
-sub-d : tie.Need-sub-d
-sub-d c = pointer-at (c .before .before .args .t1) (c .before .before .args .file) (c .before .before .pre .0)
+sub-pointers : tie.Need-sub-pointers
+sub-pointers c = pointer-at (c .before .before .before .args .c) (c .before .before .before .args .file) (c .before .before .before .pre .0)
 
 returns-2 : tie.Need-returns-2
 unfolding giveToUnpackers
@@ -29,9 +29,9 @@ give-to-unpackers-spec =
     (λ c. search needs)
     (λ c. search needs)
     (λ c. search needs)
-    add-d
-    element-write-d
+    add-owners
+    array-write-owners
     returns
-    sub-d
+    sub-pointers
     (λ c. search needs)
     returns-2)

@@ -2,8 +2,8 @@ use borrow.Author.Needs.{needs}
 use Rattle.control.proofs.gate.sync_gate.Statement.{statement}
 use Rattle.control.proofs.gate.sync_gate.Tie as tie
 
-element-copy-out-holder : tie.Need-element-copy-out-holder
-element-copy-out-holder c = rw (c .before .s .given .1) at (c .before .before .before .pre .1)
+array-read-holder : tie.Need-array-read-holder
+array-read-holder c = rw (c .before .before .s .given .1) at (c .before .before .before .before .pre .1)
 
 returns : tie.Need-returns
 returns c = rw (c .before .before .before .before .s .given .1) (cc)
@@ -14,7 +14,7 @@ sync-gate-spec =
     (tie.spec
     (λ c. search needs)
     (λ c. search needs)
-    element-copy-out-holder
+    array-read-holder
     (λ c κs. search needs)
     (λ c κs. search needs)
     (λ c. search needs)

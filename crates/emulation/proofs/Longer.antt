@@ -1,0 +1,20 @@
+-- Inputs longer than what the program reads.
+use Prim.Native.Nat.{ℕ}
+use mathlib.Core.Path.{_≡_, refl}
+use mathlib.Core.List.{List, _++_}
+use lib.ListN.{length}
+use Rattle.records.specs.declared.script.ScriptRead.{ScriptRead}
+use Rattle.records.specs.declared.script.ScriptRead.the-variants.{Sound, BadAt}
+use Rattle.records.specs.Script.{scriptOf}
+use Rattle.records.proofs.Longer.{Bad, script-longer}
+use Rattle.emulation.specs.Emulation.{byScript, emulationOf, LongInputs}
+
+told-alike : (bs cs : List ℕ) (r : ScriptRead) → Bad r → byScript bs r ≡ byScript cs r
+told-alike bs cs (Sound s) h = absurd h
+told-alike bs cs (BadAt n) h = refl
+
+pub long-inputs : LongInputs
+unfolding emulationOf
+long-inputs bs more h =
+    let x = script-longer bs more h in
+    rw (x .0) (told-alike (bs ++ more) bs (scriptOf bs) (x .1))

@@ -1,0 +1,4 @@
+pub mod Keeping
+pub mod Loading
+pub mod Splitting
+pub mod Longer

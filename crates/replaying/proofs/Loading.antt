@@ -1,0 +1,78 @@
+-- What is printed, by what came of loading the image and of reading the records.
+use Prim.Native.Nat.{ℕ, _+_}
+use mathlib.Core.Path.{_≡_, refl, sym, ap, _∙_}
+use mathlib.Core.Bool.{Bool, true, false, cond}
+use mathlib.Core.List.{List}
+use native.Mathlib.Omega.{arith}
+use Rattle.bits.specs.Bytes.{Bytes}
+use Rattle.machine.specs.declared.refusal.Refusal.{Refusal}
+use Rattle.machine.specs.declared.refusal.Refusal.the-variants.{BadImage}
+use Rattle.machine.specs.Machine.{Machine}
+use Rattle.machine.specs.Formed.{sized, wellFormed}
+use Rattle.format.specs.Format.{accepts}
+use Rattle.image.specs.declared.LoadAnswer.{LoadAnswer}
+use Rattle.image.specs.declared.LoadAnswer.the-variants.{Taken, NotLoaded}
+use Rattle.image.specs.Image.{image, imageSize}
+use Rattle.image.specs.Calls.{Loading, loading, loadAnswer, machineAfter, loadOf}
+use Rattle.image.proofs.Answers.{taken-means}
+use Rattle.image.proofs.Trips.{round-trips}
+use Rattle.run.specs.Streams.{Streams}
+use Rattle.run.specs.Run.{runOf, summaryOf}
+use Rattle.records.specs.declared.replay_script.ReplayScript.{ReplayScript}
+use Rattle.records.specs.declared.replay_script.ReplayRead.{ReplayRead}
+use Rattle.records.specs.declared.replay_script.ReplayRead.the-variants.{Whole, Faulty}
+use Rattle.records.specs.Counts.{streamsOf}
+use Rattle.records.specs.ReplayScript.{replayScriptOf}
+use Rattle.report.specs.Words.{badRecordWord, badImageWord}
+use Rattle.report.specs.Lines.{numberLine}
+use Rattle.telling.specs.Told.{toldOf}
+use Rattle.replaying.specs.Replay.{imageMachine, imageGood, imageFine, offsetOf, replayRun, byRecords, recordsOf, partsOf}
+
+-- the run, of streams that go by a name
+pub named-run : (tail : List ℕ) (m : Machine) (s : ReplayScript) (w : Streams) → w ≡ streamsOf tail (s .counts) →
+    summaryOf (runOf w m (s .cursor) (s .budget)) ≡ replayRun tail m s
+unfolding replayRun
+named-run tail m s w e = rw e
+
+module _ (came tail : List ℕ) (m : Machine) (r : ReplayRead) (e : r ≡ replayScriptOf tail) where
+  by-read : byRecords came tail m r ≡ recordsOf came tail m
+  unfolding recordsOf
+  by-read = ap (λ (x : ReplayRead). byRecords came tail m x) e
+
+  pub records-bad : (n : ℕ) → r ≡ Faulty n → numberLine badRecordWord (imageSize + n) ≡ recordsOf came tail m
+  records-bad n h = sym (ap (λ (x : ReplayRead). byRecords came tail m x) h) ∙ by-read
+
+  pub records-whole : (s : ReplayScript) → r ≡ Whole s → toldOf came (replayRun tail m s) (s .counts) ≡ recordsOf came tail m
+  records-whole s h = sym (ap (λ (x : ReplayRead). byRecords came tail m x) h) ∙ by-read
+
+-- an image that was not taken, into parts of the right sizes, is a bad one
+bad-means : (fine : Bool) (g : ℕ) (r : Refusal) → cond fine Taken (NotLoaded (BadImage g)) ≡ NotLoaded r → (fine ≡ false) × (r ≡ BadImage g)
+bad-means true g r e = let z : _≡_ {A = ℕ} 0 1 = cc in absurd (omega arith)
+bad-means false g r e = (refl, cc)
+
+module _ (came tail : List ℕ) (old : Machine) (a : LoadAnswer) (m : Machine) (e : loading a m ≡ loadOf came old) where
+  answered : a ≡ loadAnswer (sized old) came
+  unfolding loadOf
+  answered = ap (λ (x : Loading). x .answer) e
+
+  pub parts-bad : (r : Refusal) → sized old ≡ true → a ≡ NotLoaded r → numberLine badImageWord (offsetOf r) ≡ partsOf came tail
+  unfolding partsOf imageFine imageGood loadAnswer
+  parts-bad r s h =
+      let told : loadAnswer true came ≡ NotLoaded r = ap (λ (b : Bool). loadAnswer b came) (sym s) ∙ sym answered ∙ h in
+      let b = bad-means (accepts image came) (image .good came) r told in
+      rw (b .0, b .1)
+
+  taken : a ≡ Taken → m ≡ image .get came
+  unfolding loadOf
+  taken h = ap (λ (x : Loading). x .machine) e ∙ ap (λ (x : LoadAnswer). machineAfter x came old) (sym answered ∙ h)
+
+  pub parts-taken : a ≡ Taken → recordsOf came tail m ≡ partsOf came tail
+  unfolding partsOf imageFine imageMachine
+  parts-taken h =
+      let fine = taken-means (sized old) came (sym answered ∙ h) .1 in
+      rw fine (ap (λ (x : Machine). recordsOf came tail x) (taken h))
+
+  pub loaded-formed : a ≡ Taken → Bytes came → wellFormed m ≡ true
+  loaded-formed h b =
+      ap (λ (x : Loading). wellFormed (x .machine)) e
+      ∙ round-trips .formed came old b (sym (ap (λ (x : Loading). x .answer) e) ∙ h)

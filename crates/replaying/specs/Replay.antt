@@ -1,0 +1,83 @@
+-- What the program `replay` prints for each input there is: an image, then records 32 to 36.
+use Prim.Native.Nat.{ℕ, _+_, _≤_}
+use mathlib.Core.Path.{_≡_}
+use mathlib.Core.Bool.{Bool, cond}
+use mathlib.Core.List.{List, _++_}
+use lib.ListN.{length, take, drop}
+use Rattle.machine.specs.declared.refusal.Refusal.{Refusal}
+use Rattle.machine.specs.declared.refusal.Refusal.the-variants.{BadThread, BadWord, BadField, BadLength, BadCursor, BadBudget, BadRounds, ShortOutput, BadImage, Malformed, BadPlace, WrongOwner}
+use Rattle.machine.specs.Machine.{Machine}
+use Rattle.format.specs.Format.{accepts}
+use Rattle.image.specs.Image.{image, imageSize}
+use Rattle.run.specs.Run.{Summary, runOf, summaryOf}
+use Rattle.records.specs.declared.replay_script.ReplayScript.{ReplayScript}
+use Rattle.records.specs.declared.replay_script.ReplayRead.{ReplayRead}
+use Rattle.records.specs.declared.replay_script.ReplayRead.the-variants.{Whole, Faulty}
+use Rattle.records.specs.Counts.{streamsOf}
+use Rattle.records.specs.ReplayScript.{replayScriptOf}
+use Rattle.report.specs.Words.{badRecordWord, badImageWord}
+use Rattle.report.specs.Lines.{numberLine}
+use Rattle.telling.specs.Told.{toldOf}
+
+-- the machine of an image's bytes
+unfoldable pub imageMachine : List ℕ → Machine
+imageMachine bs = image .get bs
+
+-- the offset of an image's first field that is missing, cut or out of range
+unfoldable pub imageGood : List ℕ → ℕ
+imageGood bs = image .good bs
+
+-- nothing of an image is missing, cut, out of range or left over
+unfoldable pub imageFine : List ℕ → Bool
+imageFine bs = accepts image bs
+
+-- the run that the records ask for
+unfoldable pub replayRun : List ℕ → Machine → ReplayScript → Summary
+replayRun tail m s = summaryOf (runOf (streamsOf tail (s .counts)) m (s .cursor) (s .budget))
+
+abbrev pub byRecords : List ℕ → List ℕ → Machine → ReplayRead → List ℕ
+byRecords came tail m (Whole s) = toldOf came (replayRun tail m s) (s .counts)
+byRecords came tail m (Faulty n) = numberLine badRecordWord (imageSize + n)
+
+-- of a machine loaded from the image that came, and the records after the image: what is told, or `bad record at N`, N counted
+-- from the start of the input
+unfoldable pub recordsOf : List ℕ → List ℕ → Machine → List ℕ
+recordsOf came tail m = byRecords came tail m (replayScriptOf tail)
+
+-- the offset in refusal 9
+abbrev pub offsetOf : Refusal → ℕ
+offsetOf BadThread = 0
+offsetOf BadWord = 0
+offsetOf BadField = 0
+offsetOf BadLength = 0
+offsetOf BadCursor = 0
+offsetOf BadBudget = 0
+offsetOf BadRounds = 0
+offsetOf ShortOutput = 0
+offsetOf (BadImage n) = n
+offsetOf Malformed = 0
+offsetOf BadPlace = 0
+offsetOf WrongOwner = 0
+
+-- a bad image prints only `bad image at N`
+unfoldable pub partsOf : List ℕ → List ℕ → List ℕ
+partsOf came tail =
+    cond (imageFine came) (recordsOf came tail (imageMachine came)) (numberLine badImageWord (imageGood came))
+
+unfoldable pub replayOf : List ℕ → List ℕ
+replayOf bs = partsOf (take imageSize bs) (drop imageSize bs)
+
+-- one byte more than the longest sound input, which is all that the program reads
+abbrev pub bytesRead : ℕ
+bytesRead = 834956
+
+-- what stands behind them changes nothing
+abbrev pub LongInputs : Type 0
+LongInputs = (bs more : List ℕ) → length bs ≡ bytesRead → replayOf (bs ++ more) ≡ replayOf bs
+
+-- a place that cuts an input as its image does, also where the input is shorter
+pub record Split (bs : List ℕ) (at : ℕ) : Type 0 where
+  pub within : at ≤ length bs
+  pub short : at ≤ imageSize
+  pub image : take at bs ≡ take imageSize bs
+  pub rest : drop at bs ≡ drop imageSize bs

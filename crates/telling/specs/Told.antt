@@ -1,0 +1,32 @@
+-- What the program `replay` prints of a run.
+use Prim.Native.Nat.{ℕ}
+use mathlib.Core.Bool.{Bool, true, false, cond}
+use mathlib.Core.List.{List, _++_}
+use Rattle.machine.specs.Machine.{Machine}
+use Rattle.image.specs.Image.{image}
+use Rattle.run.specs.declared.ending.Ending.{Ending}
+use Rattle.run.specs.declared.ending.Ending.the-variants.{Finished, Stuck, BudgetUsed, WordRefused, CallRefused}
+use Rattle.run.specs.Run.{Summary}
+use Rattle.records.specs.declared.counts.Counts.{Counts}
+use Rattle.report.specs.Words.{nextWord}
+use Rattle.report.specs.Lines.{numberLine, endLine, runLines}
+
+-- the image's bytes of a machine
+unfoldable pub imageBytes : Machine → List ℕ
+imageBytes m = image .put m
+
+-- the five lines of a run, and `next N`
+abbrev pub sixLines : Summary → Counts → List ℕ
+sixLines r n =
+    runLines (r .answer) (r .turns) (r .cursor) (n .n0) (n .n1) (n .n2) ++ numberLine nextWord (r .cursor .next)
+
+abbrev pub callRefused : Ending → Bool
+callRefused Finished = false
+callRefused Stuck = false
+callRefused BudgetUsed = false
+callRefused (WordRefused e) = false
+callRefused (CallRefused e) = true
+
+-- six lines and the image after the run; of a refused call `rejected N` and the image as it came
+unfoldable pub toldOf : List ℕ → Summary → Counts → List ℕ
+toldOf came r n = cond (callRefused (r .answer)) (endLine (r .answer) ++ came) (sixLines r n ++ imageBytes (r .after))

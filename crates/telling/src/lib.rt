@@ -1,0 +1,156 @@
+// What the program `replay` prints of a run: its lines and an image.
+ghost use mathlib.Core.Path.{_≡_};
+ghost use mathlib.Core.Bool.{true};
+ghost use mathlib.Core.List.{_++_};
+ghost use Prim.Native.Nat.{_+_, _≤_};
+ghost use lib.ListN.{length};
+ghost use Rattle.bits.specs.Overwrite.{Wrote};
+ghost use Rattle.machine.specs.Machine.{machine, stores};
+ghost use Rattle.machine.specs.Formed.{wellFormed};
+ghost use Rattle.run.specs.Run.{summary};
+ghost use Rattle.report.specs.Lines.{endLine};
+ghost use Rattle.telling.specs.Told.{imageBytes, sixLines, callRefused, toldOf};
+use machine::control::Control;
+use records::counts::Counts;
+use run::cursor::Cursor;
+use run::ending::Ending;
+
+// The bytes of an image.
+pub const IMAGE_BYTES: usize = 48473;
+
+// The image of a well-formed machine. Internal: there is room.
+fn put_image(
+    out: &mut [u8],
+    at: usize,
+    control: Control,
+    settings: &[u16],
+    gprs: &[u32],
+    config: &[u32],
+    dest: &[u16],
+    marks: &[bool],
+    src_a: &[u32],
+    src_b: &[u32],
+) -> usize
+    requires { ⌜ (wellFormed (machine control (now settings) (stores (now gprs) (now config) (now dest) (now marks) (now «src_a») (now «src_b»))) ≡ true) × (at + 48473 ≤ length (now out)) ⌝ }
+    ensures { λ r. ⌜ Wrote (now (out .entry)) at (imageBytes (machine control (now (settings .entry)) (stores (now (gprs .entry)) (now (config .entry)) (now (dest .entry)) (now (marks .entry)) (now («src_a» .entry)) (now («src_b» .entry))))) (now (out .exit)) r ⌝ }
+{
+    let rest = &mut out[at..];
+    image::save(
+        control,
+        settings,
+        gprs,
+        config,
+        dest,
+        marks,
+        src_a,
+        src_b,
+        rest,
+    );
+    at + IMAGE_BYTES
+}
+
+// The six lines of a run, and the image after it. Internal: the machine is well formed, and there is room.
+fn put_ran(
+    out: &mut [u8],
+    answer: Ending,
+    turns: u32,
+    cursor: Cursor,
+    counts: Counts,
+    control: Control,
+    settings: &[u16],
+    gprs: &[u32],
+    config: &[u32],
+    dest: &[u16],
+    marks: &[bool],
+    src_a: &[u32],
+    src_b: &[u32],
+) -> usize
+    requires { ⌜ (wellFormed (machine control (now settings) (stores (now gprs) (now config) (now dest) (now marks) (now «src_a») (now «src_b»))) ≡ true) × (49000 ≤ length (now out)) ⌝ }
+    ensures { λ r. ⌜ Wrote (now (out .entry)) 0 (sixLines (summary answer turns (machine control (now (settings .entry)) (stores (now (gprs .entry)) (now (config .entry)) (now (dest .entry)) (now (marks .entry)) (now («src_a» .entry)) (now («src_b» .entry)))) cursor) counts ++ imageBytes (machine control (now (settings .entry)) (stores (now (gprs .entry)) (now (config .entry)) (now (dest .entry)) (now (marks .entry)) (now («src_a» .entry)) (now («src_b» .entry))))) (now (out .exit)) r ⌝ }
+{
+    let p = report::put_run_lines(
+        out,
+        0,
+        answer,
+        turns,
+        cursor,
+        counts.n0,
+        counts.n1,
+        counts.n2,
+    );
+    let q = report::put_number_line(out, p, b"next ", cursor.next as usize);
+    put_image(
+        out,
+        q,
+        control,
+        settings,
+        gprs,
+        config,
+        dest,
+        marks,
+        src_a,
+        src_b,
+    )
+}
+
+// `rejected N`, and the image as it came. Internal: there is room.
+fn put_rejected(out: &mut [u8], answer: Ending, came: &[u8]) -> usize
+    requires { ⌜ 80 + length (now came) ≤ length (now out) ⌝ }
+    ensures { λ r. ⌜ Wrote (now (out .entry)) 0 (endLine answer ++ now (came .entry)) (now (out .exit)) r ⌝ }
+{
+    let p = report::put_end_line(out, 0, answer);
+    text::put_text(out, p, came)
+}
+
+// Whether the call was refused.
+fn call_refused(e: Ending) -> bool
+    ensures { λ r. ⌜ r ≡ callRefused e ⌝ }
+{
+    match e {
+        Ending::Finished => false,
+        Ending::Stuck => false,
+        Ending::BudgetUsed => false,
+        Ending::WordRefused(_) => false,
+        Ending::CallRefused(_) => true,
+    }
+}
+
+// What is told of a run. Internal: the machine is well formed, and there is room.
+pub fn put_told(
+    out: &mut [u8],
+    came: &[u8],
+    answer: Ending,
+    turns: u32,
+    cursor: Cursor,
+    counts: Counts,
+    control: Control,
+    settings: &[u16],
+    gprs: &[u32],
+    config: &[u32],
+    dest: &[u16],
+    marks: &[bool],
+    src_a: &[u32],
+    src_b: &[u32],
+) -> usize
+    requires { ⌜ (wellFormed (machine control (now settings) (stores (now gprs) (now config) (now dest) (now marks) (now «src_a») (now «src_b»))) ≡ true) × (49000 ≤ length (now out)) × (length (now came) ≤ 48473) ⌝ }
+    ensures { λ r. ⌜ Wrote (now (out .entry)) 0 (toldOf (now (came .entry)) (summary answer turns (machine control (now (settings .entry)) (stores (now (gprs .entry)) (now (config .entry)) (now (dest .entry)) (now (marks .entry)) (now («src_a» .entry)) (now («src_b» .entry)))) cursor) counts) (now (out .exit)) r ⌝ }
+{
+    if call_refused(answer) {
+        return put_rejected(out, answer, came);
+    }
+    put_ran(
+        out,
+        answer,
+        turns,
+        cursor,
+        counts,
+        control,
+        settings,
+        gprs,
+        config,
+        dest,
+        marks,
+        src_a,
+        src_b,
+    )
+}
