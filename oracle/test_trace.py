@@ -44,8 +44,8 @@ class Trace(unittest.TestCase):
         self.assertEqual(list(missing('docs/TRACE.md')), [])
 
     def test_a_wrong_name_is_seen(self):
-        self.assertFalse(stands_in('holdsLater', text_of('control/specs/Waits')))
-        self.assertTrue(stands_in('holdsNow', text_of('control/specs/Waits')))
+        self.assertFalse(stands_in('holdsLater', text_of('gate/specs/Waits')))
+        self.assertTrue(stands_in('holdsNow', text_of('gate/specs/Waits')))
 
 
 class Files(unittest.TestCase):

@@ -16,10 +16,10 @@ use Rattle.words.specs.declared.instruction.Instruction.{Instruction}
 use Rattle.words.specs.declared.instruction.Instruction.the-variants.{Scalar, Config}
 use Rattle.words.specs.declared.instruction.Decoded.the-variants.{Decodes, Rejects}
 use Rattle.words.specs.Decode.{decodeOf}
-use Rattle.control.specs.declared.gate.Gate.{Gate}
-use Rattle.control.specs.declared.gate.Gate.the-variants.{Open, Closed}
-use Rattle.control.specs.Waits.{holdsNow}
-use Rattle.control.specs.Gate.{blockOf, gateOf}
+use Rattle.gate.specs.declared.Gate.{Gate}
+use Rattle.gate.specs.declared.Gate.the-variants.{Open, Closed}
+use Rattle.gate.specs.Waits.{holdsNow}
+use Rattle.gate.specs.Gate.{blockOf, gateOf}
 use Rattle.step.specs.declared.CallCheck.the-variants.{Fine}
 use Rattle.step.specs.Step.{stepped, passOf, checkOf, stepOf}
 use Rattle.step.proofs.Ways.{check-fine, call-offered, word-decoded, word-refused, gate-open}

@@ -12,7 +12,7 @@ use Rattle.bits.specs.Ranges.{allAtMost}
 use Rattle.machine.specs.Formed.{controlFormed}
 use Rattle.machine.specs.Sizes.{gprCount, configCount, destCount, markCount, sourceCount, rowCells, cellMost}
 use Rattle.machine.specs.declared.control.Control.{Control}
-use Rattle.control.specs.Waits.{unpackersOwn}
+use Rattle.banks.specs.Owners.{unpackersOwn}
 use Rattle.bench.specs.Answers.{Told, accepted, provided}
 use Rattle.bench.specs.DestRows.{bankCheck, destCheck}
 use Rattle.bench.specs.Gprs.{gprCheck}

@@ -12,7 +12,7 @@ use Rattle.bits.specs.Overwrite.{over}
 use Rattle.machine.proofs.ControlFacts.{pointer-at}
 use Rattle.machine.specs.Sizes.{bankRows, rowCells, sourceCount}
 use Rattle.machine.specs.declared.control.Control.{Control}
-use Rattle.control.specs.Waits.{unpackBank}
+use Rattle.banks.specs.Owners.{unpackBank}
 use Rattle.bench.specs.Answers.{accepted}
 use Rattle.bench.specs.Promises.{SourcePromises}
 use Rattle.bench.specs.Sources.{Sources, sourcePlace, sourceCheck, withSourceRow, writeSourceRowOf, canShow, shownRow}

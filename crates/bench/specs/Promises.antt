@@ -6,7 +6,7 @@ use mathlib.Core.List.{List}
 use lib.ListN.{length}
 use Rattle.bits.specs.Overwrite.{over}
 use Rattle.bits.specs.Ranges.{allAtMost}
-use Rattle.control.specs.Waits.{unpackBank}
+use Rattle.banks.specs.Owners.{unpackBank}
 use Rattle.machine.specs.Sizes.{rowCells, wordMost}
 use Rattle.machine.specs.declared.control.Control.{Control}
 use Rattle.bench.specs.Answers.{accepted, call}

@@ -6,7 +6,7 @@ use lib.Dec.{eqb, leb}
 use lib.ListN.{length, take, drop}
 use Rattle.bits.specs.Overwrite.{over}
 use Rattle.bits.specs.Ranges.{allAtMost}
-use Rattle.control.specs.Waits.{unpackBank, unpackersOwn}
+use Rattle.banks.specs.Owners.{unpackBank, unpackersOwn}
 use Rattle.machine.specs.Formed.{controlFormed}
 use Rattle.machine.specs.Sizes.{bankRows, cellMost, rowCells, sourceCount}
 use Rattle.machine.specs.declared.control.Control.{Control}

@@ -8,7 +8,7 @@ ghost use Rattle.bench.specs.Answers.{told, call};
 ghost use Rattle.bench.specs.Sources.{sources, sourcePlace, sourcesSized, sourcesFormed, rowInRange, sourceCheck, writeSourceRowOf, canShow, shownRow, shownAt};
 use crate::Access;
 use crate::cells::put_words;
-use control::waits::unpackers_own;
+use banks::owners::unpackers_own;
 use formed::cells_formed;
 use formed::control_formed;
 use machine::control::Control;

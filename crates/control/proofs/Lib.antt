@@ -1,4 +1,2 @@
-pub mod Masks
 pub mod Keeps
-pub mod Chosen
-pub mod Decides
+pub mod NoWait

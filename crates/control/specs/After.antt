@@ -14,11 +14,11 @@ use Rattle.words.specs.declared.instruction.SyncWord.{SyncWord}
 use Rattle.words.specs.declared.instruction.SyncWord.the-variants.{AtGetM, AtRelM, StallWait, SemInit, SemPost, SemGet, SemWait}
 use Rattle.words.specs.declared.instruction.MatrixWord.{MatrixWord}
 use Rattle.words.specs.declared.instruction.MatrixWord.the-variants.{TrnspSrcB, MovB2A, ZeroAcc, ClearDValid, SetDValid}
-use Rattle.control.specs.declared.semaphores.SemaphoreChange.{SemaphoreChange}
-use Rattle.control.specs.declared.semaphores.SemaphoreChange.the-variants.{Init, Up, Down}
-use Rattle.control.specs.Semaphores.{changeMasked}
-use Rattle.control.specs.Waits.{holdsNow}
-use Rattle.control.specs.Banks.{setDValidAfter, clearDValidAfter}
+use Rattle.semaphores.specs.declared.SemaphoreChange.{SemaphoreChange}
+use Rattle.semaphores.specs.declared.SemaphoreChange.the-variants.{Init, Up, Down}
+use Rattle.semaphores.specs.Semaphores.{changeMasked}
+use Rattle.gate.specs.Waits.{holdsNow}
+use Rattle.banks.specs.Banks.{setDValidAfter, clearDValidAfter}
 
 abbrev pub withWait : Control → ℕ → Wait → Control
 withWait c t w = withThread c t (record { wait = w })

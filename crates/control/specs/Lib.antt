@@ -1,5 +1,1 @@
-pub mod Semaphores
-pub mod Waits
-pub mod Banks
-pub mod Gate
 pub mod After

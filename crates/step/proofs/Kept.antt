@@ -16,10 +16,10 @@ use Rattle.words.specs.declared.instruction.Decoded.the-variants.{Decodes, Reje
 use Rattle.words.specs.Decode.{decodeOf}
 use Rattle.words.specs.InRange.{InRange, DecodedInRange}
 use Rattle.words.proofs.InRange.{decode-in-range}
-use Rattle.control.specs.declared.gate.Gate.{Gate}
-use Rattle.control.specs.declared.gate.Gate.the-variants.{Open, Closed}
-use Rattle.control.specs.Waits.{matrixBank}
-use Rattle.control.specs.Gate.{gateOf}
+use Rattle.gate.specs.declared.Gate.{Gate}
+use Rattle.gate.specs.declared.Gate.the-variants.{Open, Closed}
+use Rattle.banks.specs.Owners.{matrixBank}
+use Rattle.gate.specs.Gate.{gateOf}
 use Rattle.control.proofs.Keeps.{control-after-formed}
 use Rattle.stores.specs.After.{settingsAfter, storesAfter}
 use Rattle.stores.proofs.Keeps.{settings-long, settings-range, stores-sized, stores-formed}

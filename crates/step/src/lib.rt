@@ -10,7 +10,7 @@ ghost use Rattle.step.specs.Step.{stepped, passOf, gatedOf, offerOf, che
 ghost use Rattle.step.specs.Alike.{OffersAlike};
 ghost use Rattle.step.specs.Kept.{KeepsFormed};
 ghost use Rattle.step.specs.Unchanged.{Unchanged};
-use control::gate::Gate;
+use gate::Gate;
 use machine::control::Control;
 use machine::refusal::Outcome;
 use machine::refusal::Refusal;
@@ -76,7 +76,7 @@ fn gated(
     requires { ⌜ (sized (machine control (now settings) (stores (now gprs) (now config) (now dest) (now marks) (now «src_a») (now «src_b»))) ≡ true) × (controlFormed control ≡ true) × (t < 3) × InRange i ⌝ }
     ensures { λ r. ⌜ stepped (r .outcome) (machine (r .control) (now (settings .exit)) (stores (now (gprs .exit)) (now (config .exit)) (now (dest .entry)) (now (marks .exit)) (now («src_a» .exit)) (now («src_b» .exit)))) ≡ gatedOf (machine control (now (settings .entry)) (stores (now (gprs .entry)) (now (config .entry)) (now (dest .entry)) (now (marks .entry)) (now («src_a» .entry)) (now («src_b» .entry)))) t i ⌝ }
 {
-    let g = control::gate::may_pass(control, t, i);
+    let g = gate::may_pass(control, t, i);
     match g {
         Gate::Closed(cause) => Stepped {
             outcome: Outcome::Stalled(cause),

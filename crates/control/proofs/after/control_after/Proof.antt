@@ -1,6 +1,6 @@
 use mathlib.Core.Path.{sym, _∙_}
 use Rattle.machine.specs.Control.{waitOf}
-use Rattle.control.proofs.Chosen.{no-wait}
+use Rattle.control.proofs.NoWait.{no-wait}
 use Rattle.control.proofs.Keeps.{drop-formed}
 use Rattle.control.specs.After.{controlAfter}
 use borrow.Author.Needs.{needs}

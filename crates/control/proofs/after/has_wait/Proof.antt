@@ -1,6 +1,6 @@
 use borrow.Author.Tests.{eq-eqb, ne-eqb}
 use Rattle.control.specs.After.{isWait}
-use Rattle.control.proofs.Chosen.{chosen}
+use Rattle.gate.proofs.Chosen.{chosen}
 use borrow.Author.Needs.{needs}
 use Rattle.control.proofs.after.has_wait.Statement.{statement}
 use Rattle.control.proofs.after.has_wait.Tie as tie

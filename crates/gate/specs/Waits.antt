@@ -1,0 +1,24 @@
+-- What a wait holds for (document 01, "Waits").
+use Prim.Native.Nat.{ℕ}
+use mathlib.Core.Bool.{Bool, true, false, _&&_, _||_, not}
+use Rattle.bits.specs.Field.{flag}
+use Rattle.machine.specs.declared.control.Wait.{Wait}
+use Rattle.machine.specs.declared.control.Wait.the-variants.{Clear, OnStall, OnSemaphore}
+use Rattle.machine.specs.declared.control.Control.{Control}
+use Rattle.banks.specs.Owners.{unpackersOwn, matrixOwns}
+use Rattle.semaphores.specs.Semaphores.{someMeets}
+
+-- C5: SrcA's unpack bank not owned by Unpackers; C6 the same for SrcB;
+-- C7: SrcA's matrix bank not owned by Matrix; C8 the same for SrcB. Other bits never hold.
+unfoldable pub stallHolds : Control → ℕ → Bool
+stallHolds c k =
+    (flag 5 k && not (unpackersOwn c 0))
+    || ((flag 6 k && not (unpackersOwn c 1))
+    || ((flag 7 k && not (matrixOwns c 0))
+    || (flag 8 k && not (matrixOwns c 1))))
+
+-- something in the wait holds now; where nothing does, the wait is lifted
+abbrev pub holdsNow : Control → Wait → Bool
+holdsNow c Clear = false
+holdsNow c (OnStall block conditions) = stallHolds c conditions
+holdsNow c (OnSemaphore block mask condition) = someMeets condition (c .semaphores) mask
