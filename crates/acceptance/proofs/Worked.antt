@@ -27,13 +27,13 @@ use Rattle.words.specs.declared.instruction.Decoded.the-variants.{Decodes, Reje
 use Rattle.words.specs.Decode.{decodeOf}
 use Rattle.words.proofs.Examples.{low-half-of-four, add-constant, multiply-registers, second-byte, last-index, past-last-index, four-words}
 use Rattle.control.specs.After.{controlAfter}
-use Rattle.stores.specs.After.{settingsAfter, storesAfter}
-use Rattle.stores.specs.Gprs.{gprsAfter, scalarGprs}
-use Rattle.stores.specs.Config.{configAfter, configWords, withMerged}
-use Rattle.stores.specs.Copies.{copied}
-use Rattle.stores.specs.Marks.{marksAfter}
-use Rattle.stores.specs.Settings.{bankOf}
-use Rattle.stores.specs.Sources.{srcAAfter, srcBAfter}
+use Rattle.effects.specs.After.{settingsAfter, storesAfter}
+use Rattle.effects.specs.Gprs.{gprsAfter, scalarGprs}
+use Rattle.effects.specs.Config.{configAfter, configWords, withMerged}
+use Rattle.effects.specs.Copies.{copied}
+use Rattle.effects.specs.Marks.{marksAfter}
+use Rattle.effects.specs.Settings.{bankOf}
+use Rattle.effects.specs.Sources.{srcAAfter, srcBAfter}
 use Rattle.step.specs.Step.{passOf, machineAfter, stepped, stepOf}
 use Rattle.dest.proofs.Examples.{worked}
 use Rattle.bench.specs.Answers.{refused}

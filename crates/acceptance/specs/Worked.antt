@@ -18,8 +18,8 @@ use Rattle.machine.specs.Units.{gpr, gprPlace}
 use Rattle.gate.specs.Waits.{holdsNow}
 use Rattle.gate.specs.Gate.{blockOf}
 use Rattle.control.specs.After.{dropLifted}
-use Rattle.stores.specs.Places.{configPlace}
-use Rattle.stores.specs.Settings.{bankOf}
+use Rattle.effects.specs.Places.{configPlace}
+use Rattle.effects.specs.Settings.{bankOf}
 use Rattle.step.specs.Step.{Step, stepped, stepOf}
 use Rattle.dest.specs.Examples.{DestExamples}
 use Rattle.bench.specs.Answers.{refused, call}

@@ -12,7 +12,7 @@ use Rattle.gate.specs.declared.Gate.{Gate}
 use Rattle.gate.specs.declared.Gate.the-variants.{Open, Closed}
 use Rattle.gate.specs.Gate.{gateOf}
 use Rattle.control.specs.After.{controlAfter}
-use Rattle.stores.specs.After.{settingsAfter}
+use Rattle.effects.specs.After.{settingsAfter}
 use Rattle.step.specs.Step.{Step, machineAfter, byGate, gatedOf, byDecoded, offerOf}
 use Rattle.step.specs.Alike.{Agree, StepsAlike, OffersAlike}
 

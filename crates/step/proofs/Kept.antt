@@ -21,8 +21,8 @@ use Rattle.gate.specs.declared.Gate.the-variants.{Open, Closed}
 use Rattle.banks.specs.Owners.{matrixBank}
 use Rattle.gate.specs.Gate.{gateOf}
 use Rattle.control.proofs.Keeps.{control-after-formed}
-use Rattle.stores.specs.After.{settingsAfter, storesAfter}
-use Rattle.stores.proofs.Keeps.{settings-long, settings-range, stores-sized, stores-formed}
+use Rattle.effects.specs.After.{settingsAfter, storesAfter}
+use Rattle.effects.proofs.Keeps.{settings-long, settings-range, stores-sized, stores-formed}
 use Rattle.step.specs.declared.CallCheck.{CallCheck}
 use Rattle.step.specs.declared.CallCheck.the-variants.{Fine, Refuses}
 use Rattle.step.specs.Step.{machineAfter, byGate, gatedOf, byDecoded, offerOf, checkOf, byCheck, stepOf}

@@ -1,11 +1,11 @@
 use mathlib.Core.Path.{refl}
 use native.Mathlib.Omega.{arith}
 use borrow.Author.Needs.{needs}
-use Rattle.stores.specs.Gprs.{gprsAfter}
-use Rattle.stores.specs.Config.{configAfter}
-use Rattle.stores.specs.Marks.{marksAfter}
-use Rattle.stores.specs.Sources.{srcAAfter, srcBAfter}
-use Rattle.stores.specs.After.{settingsAfter, storesAfter}
+use Rattle.effects.specs.Gprs.{gprsAfter}
+use Rattle.effects.specs.Config.{configAfter}
+use Rattle.effects.specs.Marks.{marksAfter}
+use Rattle.effects.specs.Sources.{srcAAfter, srcBAfter}
+use Rattle.effects.specs.After.{settingsAfter, storesAfter}
 use Rattle.stores.proofs.apply.Statement.{statement}
 use Rattle.stores.proofs.apply.Tie as tie
 

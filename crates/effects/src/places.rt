@@ -1,0 +1,32 @@
+// Where things stand in a store: each is one list by thread or bank, row, column.
+ghost use mathlib.Core.Path.{_≡_};
+ghost use Prim.Native.Nat.{_<_};
+ghost use Rattle.effects.specs.Places.{settingPlace, configPlace, rowPlace};
+use machine::sizes::BANK_ROWS;
+use machine::sizes::BANK_WORDS;
+use machine::sizes::ROW_CELLS;
+use machine::sizes::THREAD_SETTINGS;
+
+// A thread's ThreadConfig entry. Internal, as all below: the numbers are in range.
+pub fn setting_place(t: usize, entry: usize) -> usize
+    requires { ⌜ (t < 3) × (entry < 64) ⌝ }
+    ensures { λ r. ⌜ r ≡ settingPlace t entry ⌝ }
+{
+    t * THREAD_SETTINGS + entry
+}
+
+// A bank's Config word.
+pub fn config_place(bank: usize, index: usize) -> usize
+    requires { ⌜ (bank < 2) × (index < 256) ⌝ }
+    ensures { λ r. ⌜ r ≡ configPlace bank index ⌝ }
+{
+    bank * BANK_WORDS + index
+}
+
+// The first cell of a bank's row of a source file.
+pub fn row_place(bank: usize, row: usize) -> usize
+    requires { ⌜ (bank < 2) × (row < 64) ⌝ }
+    ensures { λ r. ⌜ r ≡ rowPlace bank row ⌝ }
+{
+    (bank * BANK_ROWS + row) * ROW_CELLS
+}

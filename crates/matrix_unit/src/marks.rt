@@ -1,0 +1,110 @@
+// ZEROACC: the valid marks of Dest's storage rows, cleared by rows of a view.
+ghost use mathlib.Core.Path.{_≡_};
+ghost use Prim.Native.Nat.{_+_, _≤_, _<_};
+ghost use mathlib.Core.Bool.{false};
+ghost use lib.ListN.{length, replicate};
+ghost use Rattle.words.specs.MatrixWords.{viewRows};
+ghost use Rattle.words.specs.InRange.{PlaceInView};
+ghost use Rattle.dest.specs.Rows.{rows16};
+ghost use Rattle.effects.specs.Marks.{clearRow16, clearRow32, clearRow, clearRows, flagsIn, firstRow, rowCount, RowsCleared, afterZeroAcc};
+use effects::places::config_place;
+use dest::flags::FLAG_WORD;
+use dest::flags::Flags;
+use dest::flags::flags_of;
+use dest::maps::high_row;
+use dest::maps::low_row;
+use dest::maps::storage_row;
+use dest::rows::View16Row;
+use dest::rows::View32Row;
+
+// How many rows a view has.
+fn view_rows(wide: bool) -> u16
+    ensures { λ r. ⌜ r ≡ viewRows wide ⌝ }
+{
+    if wide {
+        return View32Row::ROWS;
+    }
+    View16Row::ROWS
+}
+
+// The first view row that a mode clears.
+fn first_row(mode: u8, wide: bool, place: u16) -> u16
+    requires { ⌜ PlaceInView mode wide place ⌝ }
+    ensures { λ r. ⌜ r ≡ firstRow mode wide place ⌝ }
+{
+    match mode {
+        0 => place,
+        1 => 16 * place,
+        2 => view_rows(wide) / 2 * place,
+        _ => 0,
+    }
+}
+
+// How many view rows a mode clears.
+fn row_count(mode: u8, wide: bool) -> u16
+    ensures { λ r. ⌜ r ≡ rowCount mode wide ⌝ }
+{
+    match mode {
+        0 => 1,
+        1 => 16,
+        2 => view_rows(wide) / 2,
+        _ => view_rows(wide),
+    }
+}
+
+// A row of the 16-bit view cleared.
+fn clear_row16(marks: &mut [bool], flags: Flags, row: View16Row)
+    requires { ⌜ (length (now marks) ≡ 1024) × (row .0 < rows16) ⌝ }
+    ensures { λ _. ⌜ now (marks .exit) ≡ clearRow16 flags row (now (marks .entry)) ⌝ }
+{
+    let there = storage_row(flags, row);
+    marks[there.0 as usize] = false;
+}
+
+// A row of the 32-bit view cleared: both its storage rows.
+fn clear_row32(marks: &mut [bool], flags: Flags, row: View32Row)
+    requires { ⌜ length (now marks) ≡ 1024 ⌝ }
+    ensures { λ _. ⌜ now (marks .exit) ≡ clearRow32 flags row (now (marks .entry)) ⌝ }
+{
+    let high = high_row(flags, row);
+    let low = low_row(flags, row);
+    marks[high.0 as usize] = false;
+    marks[low.0 as usize] = false;
+}
+
+// The view row of a number cleared: here alone ZEROACC's number becomes a row of the view that its word names.
+fn clear_row(marks: &mut [bool], flags: Flags, wide: bool, row: u16)
+    requires { ⌜ (length (now marks) ≡ 1024) × (row < viewRows wide) ⌝ }
+    ensures { λ _. ⌜ now (marks .exit) ≡ clearRow wide flags row (now (marks .entry)) ⌝ }
+{
+    if wide {
+        clear_row32(marks, flags, View32Row(row));
+    } else {
+        clear_row16(marks, flags, View16Row(row));
+    }
+}
+
+// So many view rows cleared, from the first on.
+fn clear_rows(marks: &mut [bool], flags: Flags, wide: bool, first: u16, count: u16)
+    requires { ⌜ (length (now marks) ≡ 1024) × (first + count ≤ viewRows wide) ⌝ }
+    ensures { λ _. ⌜ now (marks .exit) ≡ clearRows wide flags first count (now (marks .entry)) ⌝ }
+{
+    let mut i: u16 = 0;
+    while i < count {
+        clear_row(marks, flags, wide, first + i);
+        i += 1;
+    }
+}
+
+// ZEROACC. Internal: the stores have their sizes, and the numbers are in range.
+pub fn zero_marks(marks: &mut [bool], config: &[u32], bank: usize, mode: u8, wide: bool, place: u16)
+    requires { ⌜ (length (now marks) ≡ 1024) × (length (now config) ≡ 512) × (bank < 2) × PlaceInView mode wide place ⌝ }
+    ensures whole { λ _. ⌜ now (marks .exit) ≡ afterZeroAcc bank mode wide place (now (config .entry)) (now (marks .entry)) ⌝ }
+    ensures rows { λ _. ⌜ RowsCleared wide (flagsIn bank (now (config .entry))) (firstRow mode wide place) (rowCount mode wide) (now (marks .entry)) (now (marks .exit)) ⌝ }
+    ensures all { λ _. ⌜ (mode ≡ 3 → now (marks .exit) ≡ replicate 1024 false) ⌝ }
+{
+    let flags = flags_of(config[config_place(bank, FLAG_WORD)]);
+    let first = first_row(mode, wide, place);
+    let count = row_count(mode, wide);
+    clear_rows(marks, flags, wide, first, count);
+}
