@@ -4,10 +4,10 @@ use mathlib.Core.Path.{_≡_, sym, ap, _∙_}
 use mathlib.Core.List.{List}
 use Rattle.machine.specs.Machine.{Machine}
 use Rattle.machine.specs.Fresh.{freshMachine}
-use Rattle.run.specs.declared.cursor.Cursor.{Cursor}
-use Rattle.run.specs.declared.ending.Ending.{Ending}
-use Rattle.run.specs.Streams.{Streams}
-use Rattle.run.specs.Run.{Summary, summary, runOf, summaryOf}
+use Rattle.turns.specs.declared.cursor.Cursor.{Cursor}
+use Rattle.turns.specs.declared.ending.Ending.{Ending}
+use Rattle.turns.specs.Streams.{Streams}
+use Rattle.run_rules.specs.Run.{Summary, summary, runOf, summaryOf}
 use Rattle.records.specs.declared.script.Script.{Script}
 use Rattle.records.specs.declared.script.ScriptRead.{ScriptRead}
 use Rattle.records.specs.declared.script.ScriptRead.the-variants.{Sound, BadAt}

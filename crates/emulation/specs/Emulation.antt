@@ -4,9 +4,9 @@ use mathlib.Core.Path.{_≡_}
 use mathlib.Core.List.{List, _++_}
 use lib.ListN.{length}
 use Rattle.machine.specs.Fresh.{freshMachine}
-use Rattle.run.specs.declared.cursor.Cursor.{Cursor}
-use Rattle.run.specs.Streams.{Streams}
-use Rattle.run.specs.Run.{Summary, runOf, summaryOf}
+use Rattle.turns.specs.declared.cursor.Cursor.{Cursor}
+use Rattle.turns.specs.Streams.{Streams}
+use Rattle.run_rules.specs.Run.{Summary, runOf, summaryOf}
 use Rattle.records.specs.declared.counts.Counts.{Counts}
 use Rattle.records.specs.declared.script.ScriptRead.{ScriptRead}
 use Rattle.records.specs.declared.script.ScriptRead.the-variants.{Sound, BadAt}

@@ -3,15 +3,15 @@ ghost use mathlib.Core.Path.{_≡_};
 ghost use Prim.Native.Nat.{_≤_};
 ghost use lib.ListN.{length};
 ghost use Rattle.bits.specs.Overwrite.{Wrote};
-ghost use Rattle.run.specs.Streams.{streams};
+ghost use Rattle.turns.specs.Streams.{streams};
 ghost use Rattle.records.specs.declared.script.ScriptRead.the-variants.{Sound};
 ghost use Rattle.records.specs.Counts.{streamsOf};
 ghost use Rattle.records.specs.Script.{scriptOf};
 ghost use Rattle.emulation.specs.Emulation.{freshRun, linesOf, emulationOf, LongInputs};
 use records::script::Script;
 use records::script::ScriptRead;
-use run::cursor::Cursor;
-use run::ending::Ending;
+use turns::cursor::Cursor;
+use turns::ending::Ending;
 
 // The most words of a thread.
 pub const THREAD_WORDS: usize = 1024;

@@ -6,7 +6,7 @@ use native.Mathlib.Omega.{arith}
 use lib.ListN.{drop}
 use Rattle.bits.specs.Bytes.{le}
 use Rattle.format.specs.Format.{manyGet}
-use Rattle.run.specs.Streams.{streams}
+use Rattle.turns.specs.Streams.{streams}
 use Rattle.records.specs.declared.counts.Counts.{Counts}
 use Rattle.records.specs.Counts.{body1, body2, wordsAt, streamsOf}
 

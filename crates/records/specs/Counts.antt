@@ -6,7 +6,7 @@ use lib.Dec.{eqb}
 use lib.ListN.{drop}
 use Rattle.bits.specs.Bytes.{le}
 use Rattle.format.specs.Format.{manyGet}
-use Rattle.run.specs.Streams.{Streams, streams}
+use Rattle.turns.specs.Streams.{Streams, streams}
 use Rattle.records.specs.declared.head.BodyRead.{BodyRead}
 use Rattle.records.specs.declared.head.BodyRead.the-variants.{Body, NoBody}
 use Rattle.records.specs.declared.counts.WordsRecord.{WordsRecord}

@@ -5,7 +5,7 @@ use mathlib.Core.List.{List}
 use lib.Dec.{leb}
 use lib.ListN.{drop}
 use Rattle.bits.specs.Bytes.{le}
-use Rattle.run.specs.declared.cursor.Cursor.{Cursor}
+use Rattle.turns.specs.declared.cursor.Cursor.{Cursor}
 use Rattle.records.specs.declared.fixed.BudgetRecord.{BudgetRecord}
 use Rattle.records.specs.declared.fixed.BudgetRecord.the-variants.{Budget, NoBudget}
 use Rattle.records.specs.declared.fixed.CursorRecord.{CursorRecord}

@@ -3,7 +3,7 @@ ghost use mathlib.Core.Path.{_≡_};
 ghost use Prim.Native.Nat.{_≤_};
 ghost use lib.ListN.{drop};
 ghost use Rattle.records.specs.Fixed.{budgetRecordOf, cursorRecordOf};
-use run::cursor::Cursor;
+use turns::cursor::Cursor;
 
 // The record of the budget.
 pub enum BudgetRecord {

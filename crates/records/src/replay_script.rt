@@ -9,7 +9,7 @@ use crate::counts::Counts;
 use crate::counts::CountsRead;
 use crate::fixed::BudgetRecord;
 use crate::fixed::CursorRecord;
-use run::cursor::Cursor;
+use turns::cursor::Cursor;
 
 // The most bytes of a body of words: 65,536 words.
 pub const STREAM_BYTES: u32 = 262144;

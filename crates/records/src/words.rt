@@ -2,7 +2,7 @@
 ghost use mathlib.Core.Path.{_≡_};
 ghost use Prim.Native.Nat.{_≤_};
 ghost use lib.ListN.{length};
-ghost use Rattle.run.specs.Streams.{streams};
+ghost use Rattle.turns.specs.Streams.{streams};
 ghost use Rattle.records.specs.Counts.{wordsEnd, streamsOf};
 use crate::counts::Counts;
 

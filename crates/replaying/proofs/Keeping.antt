@@ -4,11 +4,11 @@ use mathlib.Core.Path.{_≡_, ap, _∙_}
 use mathlib.Core.Bool.{true}
 use Rattle.machine.specs.Machine.{Machine}
 use Rattle.machine.specs.Formed.{wellFormed}
-use Rattle.run.specs.declared.cursor.Cursor.{Cursor}
-use Rattle.run.specs.declared.ending.Ending.{Ending}
-use Rattle.run.specs.Streams.{Streams}
-use Rattle.run.specs.Run.{Summary, runOf, summary, summaryOf}
-use Rattle.run.proofs.Kept.{run-keeps}
+use Rattle.turns.specs.declared.cursor.Cursor.{Cursor}
+use Rattle.turns.specs.declared.ending.Ending.{Ending}
+use Rattle.turns.specs.Streams.{Streams}
+use Rattle.run_rules.specs.Run.{Summary, runOf, summary, summaryOf}
+use Rattle.run_rules.proofs.Kept.{run-keeps}
 
 pub ran-kept : (s : Streams) (m : Machine) (c : Cursor) (budget : ℕ) (a : Ending) (t : ℕ) (n : Machine) (e : Cursor) →
     summary a t n e ≡ summaryOf (runOf s m c budget) → wellFormed m ≡ true → wellFormed n ≡ true

@@ -16,8 +16,8 @@ use Rattle.image.specs.Image.{image, imageSize}
 use Rattle.image.specs.Calls.{Loading, loading, loadAnswer, machineAfter, loadOf}
 use Rattle.image.proofs.Answers.{taken-means}
 use Rattle.image.proofs.Trips.{round-trips}
-use Rattle.run.specs.Streams.{Streams}
-use Rattle.run.specs.Run.{runOf, summaryOf}
+use Rattle.turns.specs.Streams.{Streams}
+use Rattle.run_rules.specs.Run.{runOf, summaryOf}
 use Rattle.records.specs.declared.replay_script.ReplayScript.{ReplayScript}
 use Rattle.records.specs.declared.replay_script.ReplayRead.{ReplayRead}
 use Rattle.records.specs.declared.replay_script.ReplayRead.the-variants.{Whole, Faulty}

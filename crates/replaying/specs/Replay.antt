@@ -9,7 +9,7 @@ use Rattle.machine.specs.declared.refusal.Refusal.the-variants.{BadThread, BadW
 use Rattle.machine.specs.Machine.{Machine}
 use Rattle.format.specs.Format.{accepts}
 use Rattle.image.specs.Image.{image, imageSize}
-use Rattle.run.specs.Run.{Summary, runOf, summaryOf}
+use Rattle.run_rules.specs.Run.{Summary, runOf, summaryOf}
 use Rattle.records.specs.declared.replay_script.ReplayScript.{ReplayScript}
 use Rattle.records.specs.declared.replay_script.ReplayRead.{ReplayRead}
 use Rattle.records.specs.declared.replay_script.ReplayRead.the-variants.{Whole, Faulty}

@@ -6,8 +6,8 @@ ghost use lib.ListN.{length};
 ghost use Rattle.bits.specs.Overwrite.{Wrote};
 ghost use Rattle.machine.specs.Machine.{machine, stores};
 ghost use Rattle.machine.specs.Formed.{sized, wellFormed};
-ghost use Rattle.run.specs.Streams.{streams};
-ghost use Rattle.run.specs.Run.{runOf, summaryOf};
+ghost use Rattle.turns.specs.Streams.{streams};
+ghost use Rattle.run_rules.specs.Run.{runOf, summaryOf};
 ghost use Rattle.records.specs.declared.replay_script.ReplayRead.the-variants.{Whole};
 ghost use Rattle.records.specs.ReplayScript.{replayScriptOf};
 ghost use Rattle.telling.specs.Told.{toldOf};
@@ -18,7 +18,7 @@ use machine::refusal::Refusal;
 use records::counts::Counts;
 use records::replay_script::ReplayRead;
 use records::replay_script::ReplayScript;
-use run::cursor::Cursor;
+use turns::cursor::Cursor;
 use telling::IMAGE_BYTES;
 
 // Runs a machine and tells of it. Internal: the machine is well formed, and there is room.

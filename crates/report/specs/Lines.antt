@@ -2,9 +2,9 @@
 use Prim.Native.Nat.{ℕ, _+_}
 use mathlib.Core.List.{List, [], _∷_, _++_}
 use Rattle.machine.specs.Numbers.{numberOf}
-use Rattle.run.specs.declared.cursor.Cursor.{Cursor}
-use Rattle.run.specs.declared.ending.Ending.{Ending}
-use Rattle.run.specs.declared.ending.Ending.the-variants.{Finished, Stuck, BudgetUsed, WordRefused, CallRefused}
+use Rattle.turns.specs.declared.cursor.Cursor.{Cursor}
+use Rattle.turns.specs.declared.ending.Ending.{Ending}
+use Rattle.turns.specs.declared.ending.Ending.the-variants.{Finished, Stuck, BudgetUsed, WordRefused, CallRefused}
 use Rattle.text.specs.Decimal.{decimal}
 use Rattle.report.specs.Words.{endWord, finishedWord, stuckWord, budgetWord, refusedWord, rejectedWord, turnsWord, nextWord, badRecordWord, badImageWord}
 

@@ -8,8 +8,8 @@ ghost use Rattle.bits.specs.Overwrite.{Wrote};
 ghost use Rattle.report.specs.Words.{turnsWord, nextWord, badRecordWord, badImageWord};
 ghost use Rattle.report.specs.Lines.{lineEnd, numberLine, wordLine, endLine, threadLine, threadLines, runLines};
 use machine::refusal;
-use run::cursor::Cursor;
-use run::ending::Ending;
+use turns::cursor::Cursor;
+use turns::ending::Ending;
 
 // A text, a number and the line's end.
 pub fn put_number_line(out: &mut [u8], at: usize, words: &[u8], n: usize) -> usize

@@ -1,15 +1,15 @@
 // The turns of a run, one after another.
 ghost use mathlib.Core.Path.{_≡_};
 ghost use Rattle.machine.specs.Machine.{machine, stores};
-ghost use Rattle.run.specs.Streams.{streams};
-ghost use Rattle.run.specs.Ready.{Ready};
-ghost use Rattle.run.specs.Run.{runFrom, summaryOf, summary};
+ghost use Rattle.turns.specs.Streams.{streams};
+ghost use Rattle.run_rules.specs.Ready.{Ready};
+ghost use Rattle.run_rules.specs.Run.{runFrom, summaryOf, summary};
 use crate::Ran;
-use crate::cursor::Cursor;
-use crate::ending::Halt;
-use crate::ending::halted;
-use crate::ending::quiet_after;
-use crate::ending::refused_word;
+use turns::cursor::Cursor;
+use turns::ending::Halt;
+use turns::ending::halted;
+use turns::ending::quiet_after;
+use turns::ending::refused_word;
 use crate::turn::turn;
 use machine::control::Control;
 

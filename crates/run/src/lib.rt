@@ -1,24 +1,17 @@
 // Three streams of words on one machine: a cursor, a budget of turns, and how it ends (document 01, "A run").
-pub mod checks;
 pub mod course;
-pub mod cursor;
-pub mod ending;
-pub mod streams;
 pub mod turn;
 
 ghost use mathlib.Core.Path.{_≡_};
 ghost use Rattle.machine.specs.Machine.{machine, stores};
-ghost use Rattle.run.specs.Streams.{streams};
-ghost use Rattle.run.specs.Run.{runOf, summaryOf, summary};
-ghost use Rattle.run.specs.Isolation.{Isolated};
-ghost use Rattle.run.specs.StuckForGood.{StuckForGood};
-ghost use Rattle.run.specs.Kept.{RunKeeps};
-ghost use Rattle.run.specs.Numbers.{answerNumbers};
-use crate::checks::check_call;
+ghost use Rattle.turns.specs.Streams.{streams};
+ghost use Rattle.run_rules.specs.Run.{runOf, summaryOf, summary};
+ghost use Rattle.run_rules.specs.Numbers.{answerNumbers};
+use run_checks::check_call;
 use crate::course::take_turns;
-use crate::cursor::Cursor;
-use crate::ending::Ending;
-use crate::ending::Halt;
+use turns::cursor::Cursor;
+use turns::ending::Ending;
+use turns::ending::Halt;
 use machine::control::Control;
 
 // How a run ended, the turns it took, and the control part and cursor that it leaves. The rest of the machine is written
@@ -88,11 +81,3 @@ pub fn run(
         ),
     }
 }
-
-// What holds of runs and is no single function's: condition 3, what a run leaves as it is, and that a stuck run is stuck for
-// good.
-pub fn promises()
-    ensures isolated { λ _. ⌜ Isolated ⌝ }
-    ensures keeps { λ _. ⌜ RunKeeps ⌝ }
-    ensures stuck { λ _. ⌜ StuckForGood ⌝ }
-{}

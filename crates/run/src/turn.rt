@@ -1,14 +1,14 @@
 // One turn.
 ghost use mathlib.Core.Path.{_≡_};
 ghost use Rattle.machine.specs.Machine.{machine, stores};
-ghost use Rattle.run.specs.Streams.{streams};
-ghost use Rattle.run.specs.Turn.{turned, turnOf};
-ghost use Rattle.run.specs.Ready.{Ready};
-use crate::cursor::Cursor;
-use crate::cursor::moved;
-use crate::cursor::onward;
-use crate::streams::Offered;
-use crate::streams::next_word;
+ghost use Rattle.turns.specs.Streams.{streams};
+ghost use Rattle.run_rules.specs.Turn.{turned, turnOf};
+ghost use Rattle.run_rules.specs.Ready.{Ready};
+use turns::cursor::Cursor;
+use turns::cursor::moved;
+use turns::cursor::onward;
+use turns::streams::Offered;
+use turns::streams::next_word;
 use machine::control::Control;
 use machine::refusal::Outcome;
 

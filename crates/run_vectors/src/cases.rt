@@ -16,7 +16,7 @@ use machine::sizes::DEST_ROWS;
 use machine::sizes::GPRS;
 use machine::sizes::SETTINGS;
 use machine::sizes::SOURCE_CELLS;
-use run::cursor::Cursor;
+use turns::cursor::Cursor;
 use seeded::digest::digest;
 use seeded::whole::fill_machine;
 

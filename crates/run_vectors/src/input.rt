@@ -1,7 +1,7 @@
 // The numbers and streams of the input.
 ghost use Prim.Native.Nat.{_+_, _≤_, _<_};
 ghost use lib.ListN.{length};
-use run::cursor::Cursor;
+use turns::cursor::Cursor;
 
 // A case up to its streams.
 pub const CASE_BYTES: usize = 32;

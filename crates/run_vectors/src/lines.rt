@@ -1,8 +1,8 @@
 // The printed lines.
 use libc::STDOUT_FILENO;
 use machine::refusal::refusal_number;
-use run::cursor::Cursor;
-use run::ending::Ending;
+use turns::cursor::Cursor;
+use turns::ending::Ending;
 
 fn write_text(words: &[u8]) {
     io::write_all(STDOUT_FILENO, words);

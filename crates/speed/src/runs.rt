@@ -11,8 +11,8 @@ use machine::sizes::DEST_ROWS;
 use machine::sizes::GPRS;
 use machine::sizes::SETTINGS;
 use machine::sizes::SOURCE_CELLS;
-use run::cursor::Cursor;
-use run::ending::Ending;
+use turns::cursor::Cursor;
+use turns::ending::Ending;
 use seeded::digest::digest;
 use std::num::wrapping_add_u32;
 

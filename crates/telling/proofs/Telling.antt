@@ -16,7 +16,7 @@ use Rattle.image.specs.Image.{image, imageSize}
 use Rattle.image.specs.Calls.{Saving, saving, saveOf}
 use Rattle.image.proofs.Answers.{save-written}
 use Rattle.image.proofs.ImageLaws.{image-lawful, formed-ok}
-use Rattle.run.specs.Run.{Summary}
+use Rattle.run_rules.specs.Run.{Summary}
 use Rattle.records.specs.declared.counts.Counts.{Counts}
 use Rattle.report.specs.Lines.{endLine}
 use Rattle.telling.specs.Told.{imageBytes, sixLines, callRefused, toldOf}

@@ -4,9 +4,9 @@ use mathlib.Core.Bool.{Bool, true, false, cond}
 use mathlib.Core.List.{List, _++_}
 use Rattle.machine.specs.Machine.{Machine}
 use Rattle.image.specs.Image.{image}
-use Rattle.run.specs.declared.ending.Ending.{Ending}
-use Rattle.run.specs.declared.ending.Ending.the-variants.{Finished, Stuck, BudgetUsed, WordRefused, CallRefused}
-use Rattle.run.specs.Run.{Summary}
+use Rattle.turns.specs.declared.ending.Ending.{Ending}
+use Rattle.turns.specs.declared.ending.Ending.the-variants.{Finished, Stuck, BudgetUsed, WordRefused, CallRefused}
+use Rattle.run_rules.specs.Run.{Summary}
 use Rattle.records.specs.declared.counts.Counts.{Counts}
 use Rattle.report.specs.Words.{nextWord}
 use Rattle.report.specs.Lines.{numberLine, endLine, runLines}

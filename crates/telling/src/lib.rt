@@ -7,13 +7,13 @@ ghost use lib.ListN.{length};
 ghost use Rattle.bits.specs.Overwrite.{Wrote};
 ghost use Rattle.machine.specs.Machine.{machine, stores};
 ghost use Rattle.machine.specs.Formed.{wellFormed};
-ghost use Rattle.run.specs.Run.{summary};
+ghost use Rattle.run_rules.specs.Run.{summary};
 ghost use Rattle.report.specs.Lines.{endLine};
 ghost use Rattle.telling.specs.Told.{imageBytes, sixLines, callRefused, toldOf};
 use machine::control::Control;
 use records::counts::Counts;
-use run::cursor::Cursor;
-use run::ending::Ending;
+use turns::cursor::Cursor;
+use turns::ending::Ending;
 
 // The bytes of an image.
 pub const IMAGE_BYTES: usize = 48473;

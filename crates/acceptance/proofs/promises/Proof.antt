@@ -1,6 +1,6 @@
-use Rattle.run.proofs.Stuck.{stuck-for-good}
-use Rattle.run.proofs.Isolation.{isolated}
-use Rattle.run.proofs.Kept.{run-keeps}
+use Rattle.run_rules.proofs.Stuck.{stuck-for-good}
+use Rattle.run_rules.proofs.Isolation.{isolated}
+use Rattle.run_rules.proofs.Kept.{run-keeps}
 use Rattle.step.proofs.Kept.{keeps-formed}
 use Rattle.step.proofs.Unchanged.{unchanged}
 use Rattle.dest.proofs.Cover.{views-cover}

@@ -1,12 +1,12 @@
-use Rattle.run.proofs.Calls.{call-ready, call-refused, call-runs, numbered}
-use Rattle.run.specs.Run.{summaryOf}
+use Rattle.run_rules.proofs.Calls.{call-ready, call-refused, call-runs, numbered}
+use Rattle.run_rules.specs.Run.{summaryOf}
 use mathlib.Core.Path.{sym, ap, _∙_}
 use borrow.Author.Needs.{needs}
 use Rattle.run.proofs.run.Statement.{statement}
 use Rattle.run.proofs.run.Tie as tie
 use Rattle.run.proofs.run.Reads as reads
 use Rattle.run.proofs.run.Lts as lts
-use Rattle.run.proofs.checks.check_call.Reads as check-call-reads
+use Rattle.run_checks.proofs.check_call.Reads as check-call-reads
 use Rattle.run.proofs.course.take_turns.Reads as take-turns-reads
 
 -- src/lib.rt:48:9

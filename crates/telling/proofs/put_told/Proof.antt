@@ -3,7 +3,7 @@ use Prim.Native.Nat.{ℕ}
 use mathlib.Core.Path.{subst, sym, _∙_}
 use mathlib.Core.List.{List}
 use Rattle.bits.specs.Overwrite.{Wrote}
-use Rattle.run.specs.Run.{summary}
+use Rattle.run_rules.specs.Run.{summary}
 use Rattle.machine.specs.Machine.{machine, stores}
 use borrow.Author.Needs.{needs}
 use Rattle.telling.proofs.put_told.Statement.{statement}

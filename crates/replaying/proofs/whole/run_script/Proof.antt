@@ -1,7 +1,7 @@
 use Rattle.replaying.proofs.Loading.{named-run}
 use Rattle.telling.specs.Told.{toldOf}
 use mathlib.Core.Path.{subst}
-use Rattle.run.specs.Run.{Summary}
+use Rattle.run_rules.specs.Run.{Summary}
 use Rattle.records.proofs.Sound.{whole-facts}
 use Rattle.bits.specs.Overwrite.{Wrote}
 use Rattle.machine.specs.Machine.{machine, stores}

@@ -1,8 +1,8 @@
 use Rattle.replaying.proofs.Keeping.{ran-kept}
 use Rattle.telling.specs.Told.{toldOf}
 use mathlib.Core.Path.{subst}
-use Rattle.run.specs.Run.{Summary}
-use Rattle.run.specs.Streams.{streams}
+use Rattle.run_rules.specs.Run.{Summary}
+use Rattle.turns.specs.Streams.{streams}
 use Rattle.bits.specs.Overwrite.{Wrote}
 use Rattle.machine.specs.Machine.{machine, stores}
 use borrow.Author.Needs.{needs}

@@ -1,6 +1,6 @@
-use Rattle.run.proofs.Going.{Going, going-start, going-ends, going-refused, going-on}
-use Rattle.run.proofs.Halting.{turn-due}
-use Rattle.run.specs.Streams.{streams}
+use Rattle.run_rules.proofs.Going.{Going, going-start, going-ends, going-refused, going-on}
+use Rattle.run_rules.proofs.Halting.{turn-due}
+use Rattle.turns.specs.Streams.{streams}
 use Rattle.machine.specs.Machine.{machine, stores}
 use borrow.Author.Needs.{needs}
 use native.Mathlib.Omega.{arith}
@@ -10,9 +10,9 @@ use Rattle.run.proofs.course.take_turns.Statement.{statement}
 use Rattle.run.proofs.course.take_turns.Tie as tie
 use Rattle.run.proofs.course.take_turns.Reads as reads
 use Rattle.run.proofs.course.take_turns.Lts as lts
-use Rattle.run.proofs.ending.halted.Reads as halted-reads
-use Rattle.run.proofs.ending.quiet_after.Reads as quiet-after-reads
-use Rattle.run.proofs.ending.refused_word.Reads as refused-word-reads
+use Rattle.turns.proofs.ending.halted.Reads as halted-reads
+use Rattle.turns.proofs.ending.quiet_after.Reads as quiet-after-reads
+use Rattle.turns.proofs.ending.refused_word.Reads as refused-word-reads
 use Rattle.run.proofs.turn.turn.Reads as turn-reads
 
 abbrev Inv-loop : tie.InvT-loop

@@ -1,13 +1,13 @@
-use Rattle.run.proofs.Turning.{turn-idle, turn-offers, ready-offer}
+use Rattle.run_rules.proofs.Turning.{turn-idle, turn-offers, ready-offer}
 use native.Mathlib.Omega.{arith}
 use borrow.Author.Needs.{needs}
 use Rattle.run.proofs.turn.turn.Statement.{statement}
 use Rattle.run.proofs.turn.turn.Tie as tie
 use Rattle.run.proofs.turn.turn.Reads as reads
 use Rattle.run.proofs.turn.turn.Lts as lts
-use Rattle.run.proofs.cursor.moved.Reads as moved-reads
-use Rattle.run.proofs.cursor.onward.Reads as onward-reads
-use Rattle.run.proofs.streams.next_word.Reads as next-word-reads
+use Rattle.turns.proofs.cursor.moved.Reads as moved-reads
+use Rattle.turns.proofs.cursor.onward.Reads as onward-reads
+use Rattle.turns.proofs.streams.next_word.Reads as next-word-reads
 use Rattle.step.proofs.offer.Reads as offer-reads
 
 -- src/turn.rt:40:9

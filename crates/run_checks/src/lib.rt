@@ -1,0 +1,72 @@
+// The refusals of a call, in document 01's order: 4, 10, 5, 6.
+ghost use mathlib.Core.Path.{_≡_};
+ghost use Rattle.machine.specs.Machine.{machine, stores};
+ghost use Rattle.turns.specs.Streams.{streams};
+ghost use Rattle.run_rules.specs.Checks.{needed, streamsSized, placed, callCheck};
+use turns::cursor::Cursor;
+use turns::ending::Ending;
+use turns::ending::Halt;
+use machine::control::Control;
+use machine::refusal::Refusal;
+use machine::sizes::MOST_TURNS;
+use machine::sizes::STREAM_WORDS;
+
+// No stream is over 65,536 words.
+fn streams_sized(s0: &[u32], s1: &[u32], s2: &[u32]) -> bool
+    ensures { λ r. ⌜ r ≡ streamsSized (streams (now (s0 .entry)) (now (s1 .entry)) (now (s2 .entry))) ⌝ }
+{
+    let l0 = s0.len() <= STREAM_WORDS;
+    let l1 = s1.len() <= STREAM_WORDS;
+    let l2 = s2.len() <= STREAM_WORDS;
+    bits::both(l0, bits::both(l1, l2))
+}
+
+// No position is past its stream, and the next thread is one of the three.
+fn is_placed(s0: &[u32], s1: &[u32], s2: &[u32], c: Cursor) -> bool
+    ensures { λ r. ⌜ r ≡ placed (streams (now (s0 .entry)) (now (s1 .entry)) (now (s2 .entry))) c ⌝ }
+{
+    let p0 = c.at0 <= s0.len();
+    let p1 = c.at1 <= s1.len();
+    let p2 = c.at2 <= s2.len();
+    let t = c.next <= 2;
+    bits::both(p0, bits::both(p1, bits::both(p2, t)))
+}
+
+// The refusal, unless the test holds.
+fn need(holds: bool, r: Refusal, rest: Halt) -> Halt
+    ensures { λ h. ⌜ h ≡ needed holds r rest ⌝ }
+{
+    if holds {
+        return rest;
+    }
+    Halt::Ends(Ending::CallRefused(r))
+}
+
+// The first refusal of a call, where there is one.
+pub fn check_call(
+    control: Control,
+    settings: &[u16],
+    gprs: &[u32],
+    config: &[u32],
+    dest: &[u16],
+    marks: &[bool],
+    src_a: &[u32],
+    src_b: &[u32],
+    s0: &[u32],
+    s1: &[u32],
+    s2: &[u32],
+    c: Cursor,
+    budget: u32,
+) -> Halt
+    ensures { λ r. ⌜ r ≡ callCheck (streams (now (s0 .entry)) (now (s1 .entry)) (now (s2 .entry))) (machine control (now (settings .entry)) (stores (now (gprs .entry)) (now (config .entry)) (now (dest .entry)) (now (marks .entry)) (now («src_a» .entry)) (now («src_b» .entry)))) c budget ⌝ }
+{
+    let sized = formed::machine_sized(control, settings, gprs, config, dest, marks, src_a, src_b);
+    let lengths = bits::both(sized, streams_sized(s0, s1, s2));
+    let ranges = formed::machine_formed(control, settings, gprs, config, dest, marks, src_a, src_b);
+    let place = is_placed(s0, s1, s2, c);
+    let few = budget <= MOST_TURNS;
+    let h6 = need(few, Refusal::BadBudget, Halt::GoesOn);
+    let h5 = need(place, Refusal::BadCursor, h6);
+    let h10 = need(ranges, Refusal::Malformed, h5);
+    need(lengths, Refusal::BadLength, h10)
+}

@@ -1,0 +1,84 @@
+-- Condition 3, by induction on the budget: two turns from machines that agree are alike, whatever the stores hold.
+use Prim.Native.Nat.{ℕ, zero, suc}
+use mathlib.Core.Path.{_≡_, refl, sym, ap, _∙_}
+use mathlib.Core.Bool.{true}
+use mathlib.Core.List.{List, Forall₂, Forall₂·nil, Forall₂·cons}
+use Rattle.bits.proofs.Choices.{and-left, and-right}
+use Rattle.machine.specs.declared.refusal.Outcome.{Outcome}
+use Rattle.machine.specs.Machine.{Machine}
+use Rattle.machine.specs.Numbers.{outcomeNumbers}
+use Rattle.machine.specs.Formed.{sized, formed, wellFormed}
+use Rattle.step.specs.Alike.{Agree}
+use Rattle.step.proofs.Alike.{offers-alike}
+use Rattle.turns.specs.declared.cursor.Cursor.{Cursor}
+use Rattle.turns.specs.declared.streams.Offered.{Offered}
+use Rattle.turns.specs.declared.streams.Offered.the-variants.{NextWord, NoWord}
+use Rattle.turns.specs.declared.ending.Ending.{Ending}
+use Rattle.turns.specs.declared.ending.Ending.the-variants.{BudgetUsed}
+use Rattle.turns.specs.declared.ending.Halt.{Halt}
+use Rattle.turns.specs.declared.ending.Halt.the-variants.{Ends, GoesOn}
+use Rattle.turns.specs.Streams.{Streams, nextWord}
+use Rattle.turns.specs.Cursor.{movedOf}
+use Rattle.run_rules.specs.Turn.{Turn, byWord, turnOf}
+use Rattle.turns.specs.Ending.{haltOf, refusedWord, quietAfter}
+use Rattle.run_rules.specs.Checks.{callCheck}
+use Rattle.run_rules.specs.Run.{Run, stop, before, unless, runFrom, runOf}
+use Rattle.run_rules.specs.Isolation.{TurnsAlike, RunsAlike, Isolated}
+
+turns-alike : (s : Streams) (c : Cursor) (m n : Machine) → Agree m n → TurnsAlike (turnOf s m c) (turnOf s n c)
+unfolding turnOf
+turns-alike s c m n a = go (nextWord s c)
+  where
+    go : (o : Offered) → TurnsAlike (byWord m c o) (byWord n c o)
+    go NoWord = record { outcome = refl; numbers = refl; agree = a; cursor = refl }
+    go (NextWord w) =
+        let x = offers-alike m n (c .next) w a in
+        record {
+          outcome = x .outcome;
+          numbers = ap outcomeNumbers (x .outcome);
+          agree = x .agree;
+          cursor = ap (λ (o : Outcome). movedOf o c) (x .outcome);
+        }
+
+stops-alike : (a : Ending) (c : Cursor) (m n : Machine) → Agree m n → RunsAlike (stop a m c) (stop a n c)
+stops-alike a c m n e =
+    record { count = refl; each = Forall₂·nil; answer = refl; numbers = refl; agree = e; cursor = refl }
+
+before-alike : {t u : Turn} {p q : Run} → TurnsAlike t u → RunsAlike p q → RunsAlike (before t p) (before u q)
+before-alike x r =
+    record {
+      count = ap suc (r .count);
+      each = Forall₂·cons x (r .each);
+      answer = r .answer;
+      numbers = r .numbers;
+      agree = r .agree;
+      cursor = r .cursor;
+    }
+
+unless-alike : (h : Halt) (c : Cursor) (m n : Machine) {p q : Run} → Agree m n → RunsAlike p q → RunsAlike (unless h m c p) (unless h n c q)
+unless-alike (Ends a) c m n e r = stops-alike a c m n e
+unless-alike GoesOn c m n e r = r
+
+from-alike : (left : ℕ) (s : Streams) (quiet : ℕ) (c : Cursor) (m n : Machine) → Agree m n →
+    RunsAlike (runFrom left s quiet m c) (runFrom left s quiet n c)
+unfolding runFrom
+from-alike zero s quiet c m n a = unless-alike (haltOf s c quiet 0) c m n a (stops-alike BudgetUsed c m n a)
+from-alike (suc left) s quiet c m n a =
+    let t = turnOf s m c in
+    let u = turnOf s n c in
+    let x = turns-alike s c m n a in
+    let rest = from-alike left s (quietAfter (t .outcome) quiet) (t .cursor) (t .after) (u .after) (x .agree) in
+    unless-alike (haltOf s c quiet (suc left)) c m n a
+    (before-alike x (rw (← x .outcome, ← x .cursor) (unless-alike (refusedWord (t .outcome)) (t .cursor) (t .after) (u .after) (x .agree) rest)))
+
+-- well-formed machines pass the same checks, or fail them by streams, cursor or budget
+checks-alike : (s : Streams) (c : Cursor) (budget : ℕ) (m n : Machine) → wellFormed m ≡ true → wellFormed n ≡ true →
+    callCheck s m c budget ≡ callCheck s n c budget
+unfolding callCheck
+checks-alike s c budget m n hm hn =
+    rw (and-left (sized m) (formed m) hm, and-right (sized m) (formed m) hm, and-left (sized n) (formed n) hn, and-right (sized n) (formed n) hn)
+
+pub isolated : Isolated
+unfolding runOf
+isolated s c budget m n hm hn a =
+    rw (checks-alike s c budget m n hm hn) (unless-alike (callCheck s n c budget) c m n a (from-alike budget s 0 c m n a))

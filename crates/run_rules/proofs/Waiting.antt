@@ -1,0 +1,74 @@
+-- A turn that is idle or stalled leaves the machine as it is and goes on to the following thread.
+use Prim.Native.Nat.{ℕ, zero, suc, _+_, _<_}
+use mathlib.Core.Path.{_≡_, refl, ap}
+use mathlib.Core.Bool.{true, false}
+use native.Mathlib.Omega.{arith}
+use Rattle.machine.specs.declared.refusal.Outcome.{Outcome}
+use Rattle.machine.specs.declared.refusal.Outcome.the-variants.{Idle, Passed, Stalled, Refused}
+use Rattle.machine.specs.Machine.{Machine}
+use Rattle.step.specs.Step.{offerOf}
+use Rattle.step.specs.Unchanged.{hasPassed}
+use Rattle.step.proofs.Unchanged.{offer-unchanged}
+use Rattle.turns.specs.declared.cursor.Cursor.{Cursor}
+use Rattle.turns.specs.declared.streams.Offered.{Offered}
+use Rattle.turns.specs.declared.streams.Offered.the-variants.{NextWord, NoWord}
+use Rattle.turns.specs.declared.ending.Halt.the-variants.{GoesOn}
+use Rattle.turns.specs.Streams.{Streams, nextWord}
+use Rattle.turns.specs.Cursor.{cursor, following, onwardOf, movedOf}
+use Rattle.run_rules.specs.Turn.{Turn, byWord, turnOf}
+use Rattle.turns.specs.Ending.{refusedWord, quietAfter}
+use Rattle.run_rules.specs.StuckForGood.{waiting}
+
+-- after three threads it is the first one's turn again
+threads-round : (t : ℕ) → t < 3 → following (following (following t)) ≡ t
+unfolding following
+threads-round zero h = refl
+threads-round (suc zero) h = refl
+threads-round (suc (suc zero)) h = refl
+threads-round (suc (suc (suc t))) h = absurd (omega arith)
+
+pub onward-round : (c : Cursor) → c .next < 3 → onwardOf (onwardOf (onwardOf c)) ≡ c
+unfolding onwardOf
+onward-round c h = ap (λ (t : ℕ). cursor (c .at0) (c .at1) (c .at2) t) (threads-round (c .next) h)
+
+-- what a turn with such an outcome does to the cursor and to the count of turns without a passed word
+pub record Waited (o : Outcome) (c : Cursor) (quiet : ℕ) : Type 0 where
+  pub moves : movedOf o c ≡ onwardOf c
+  pub counts : quietAfter o quiet ≡ quiet + 1
+  pub goes : refusedWord o ≡ GoesOn
+
+pub waited : (o : Outcome) (c : Cursor) (quiet : ℕ) → waiting o ≡ true → Waited o c quiet
+unfolding movedOf quietAfter refusedWord
+waited Idle c quiet h = record { moves = refl; counts = refl; goes = refl }
+waited Passed c quiet h = let z : _≡_ {A = ℕ} 0 1 = cc in absurd (omega arith)
+waited (Stalled k) c quiet h = record { moves = refl; counts = refl; goes = refl }
+waited (Refused r) c quiet h = let z : _≡_ {A = ℕ} 0 1 = cc in absurd (omega arith)
+
+abbrev pub Waits : Streams → Machine → Cursor → Type 0
+Waits s m c = waiting (turnOf s m c .outcome) ≡ true
+
+waiting-quiet : (o : Outcome) → waiting o ≡ true → hasPassed o ≡ false
+waiting-quiet Idle h = refl
+waiting-quiet Passed h = let z : _≡_ {A = ℕ} 0 1 = cc in absurd (omega arith)
+waiting-quiet (Stalled k) h = refl
+waiting-quiet (Refused r) h = refl
+
+-- a turn without a passed word
+pub turn-keeps : (s : Streams) (m : Machine) (c : Cursor) → hasPassed (turnOf s m c .outcome) ≡ false → turnOf s m c .after ≡ m
+unfolding turnOf
+turn-keeps s m c h = go (nextWord s c) h
+  where
+    go : (o : Offered) → hasPassed (byWord m c o .outcome) ≡ false → byWord m c o .after ≡ m
+    go NoWord e = refl
+    go (NextWord w) e = offer-unchanged m (c .next) w e
+
+pub turn-waits : (s : Streams) (m : Machine) (c : Cursor) → Waits s m c → turnOf s m c .after ≡ m
+turn-waits s m c h = turn-keeps s m c (waiting-quiet (turnOf s m c .outcome) h)
+
+pub turn-moves : (s : Streams) (m : Machine) (c : Cursor) → Waits s m c → turnOf s m c .cursor ≡ onwardOf c
+unfolding turnOf
+turn-moves s m c h = go (nextWord s c) h
+  where
+    go : (o : Offered) → waiting (byWord m c o .outcome) ≡ true → byWord m c o .cursor ≡ onwardOf c
+    go NoWord e = waited Idle c 0 refl .moves
+    go (NextWord w) e = waited (offerOf m (c .next) w .outcome) c 0 e .moves

@@ -1,0 +1,14 @@
+use Rattle.run_rules.proofs.Stuck.{stuck-for-good}
+use Rattle.run_rules.proofs.Isolation.{isolated}
+use Rattle.run_rules.proofs.Kept.{run-keeps}
+use Rattle.run_rules.proofs.promises.Statement.{statement}
+use Rattle.run_rules.proofs.promises.Tie as tie
+use Rattle.run_rules.proofs.promises.Reads as reads
+use Rattle.run_rules.proofs.promises.Lts as lts
+
+-- src/lib.rt:89:1
+returns : tie.Need-returns
+returns c = (isolated, (run-keeps, stuck-for-good))
+
+pub promises-spec : {M : Type 1} → statement M
+promises-spec = tie.close (tie.spec returns)

@@ -1,0 +1,28 @@
+-- What a call that is not refused has, and what each turn keeps.
+use Prim.Native.Nat.{_≤_, _<_}
+use mathlib.Core.Path.{_≡_}
+use mathlib.Core.Bool.{true}
+use lib.ListN.{length}
+use Rattle.machine.specs.Sizes.{streamMost}
+use Rattle.machine.specs.Machine.{Machine}
+use Rattle.machine.specs.Formed.{wellFormed}
+use Rattle.turns.specs.declared.cursor.Cursor.{Cursor}
+use Rattle.turns.specs.Streams.{Streams}
+
+-- no stream is too long
+pub record Lengths (s : Streams) : Type 0 where
+  pub long0 : length (s .s0) ≤ streamMost
+  pub long1 : length (s .s1) ≤ streamMost
+  pub long2 : length (s .s2) ≤ streamMost
+
+-- the cursor lies within its streams
+pub record Within (s : Streams) (c : Cursor) : Type 0 where
+  pub at0 : c .at0 ≤ length (s .s0)
+  pub at1 : c .at1 ≤ length (s .s1)
+  pub at2 : c .at2 ≤ length (s .s2)
+  pub thread : c .next < 3
+
+pub record Ready (s : Streams) (m : Machine) (c : Cursor) : Type 0 where
+  pub whole : wellFormed m ≡ true
+  pub lengths : Lengths s
+  pub within : Within s c

@@ -1,0 +1,49 @@
+-- Stuck is for good: a run from where a stuck run ended passes no word and leaves the machine as it is.
+use Prim.Native.Nat.{ℕ, _≤_}
+use mathlib.Core.Path.{_≡_}
+use mathlib.Core.Bool.{Bool, true, false, cond}
+use mathlib.Core.List.{List·Memᴰ}
+use lib.Dec.{ltb}
+use lib.ListN.{length}
+use Rattle.machine.specs.Sizes.{budgetMost}
+use Rattle.machine.specs.declared.refusal.Outcome.{Outcome}
+use Rattle.machine.specs.declared.refusal.Outcome.the-variants.{Idle, Passed, Stalled, Refused}
+use Rattle.machine.specs.Machine.{Machine}
+use Rattle.turns.specs.declared.cursor.Cursor.{Cursor}
+use Rattle.turns.specs.declared.ending.Ending.the-variants.{Stuck, BudgetUsed}
+use Rattle.turns.specs.Streams.{Streams}
+use Rattle.run_rules.specs.Turn.{Turn}
+use Rattle.run_rules.specs.Run.{Run, runOf}
+
+-- idle or stalled
+abbrev pub waiting : Outcome → Bool
+waiting Idle = true
+waiting Passed = false
+waiting (Stalled cause) = true
+waiting (Refused r) = false
+
+pub record SamePositions (c d : Cursor) : Type 0 where
+  pub at0 : c .at0 ≡ d .at0
+  pub at1 : c .at1 ≡ d .at1
+  pub at2 : c .at2 ≡ d .at2
+
+-- a turn that leaves the machine m and the positions of c as they are
+pub record StillTurn (m : Machine) (c : Cursor) (t : Turn) : Type 0 where
+  pub outcome : waiting (t .outcome) ≡ true
+  pub after : t .after ≡ m
+  pub positions : SamePositions (t .cursor) c
+
+-- a run, of this budget, that leaves them so in every turn and at its end
+pub record StaysStuck (m : Machine) (c : Cursor) (budget : ℕ) (r : Run) : Type 0 where
+  pub each : (t : Turn) → List·Memᴰ t (r .turns) → StillTurn m c t
+  pub count : length (r .turns) ≡ cond (ltb budget 3) budget 3
+  pub answer : r .answer ≡ cond (ltb budget 3) BudgetUsed Stuck
+  pub after : r .after ≡ m
+  pub positions : SamePositions (r .cursor) c
+
+abbrev pub StuckForGood : Type 0
+StuckForGood =
+    (s : Streams) (m : Machine) (c : Cursor) (budget again : ℕ) →
+    runOf s m c budget .answer ≡ Stuck → again ≤ budgetMost →
+    StaysStuck (runOf s m c budget .after) (runOf s m c budget .cursor) again
+    (runOf s (runOf s m c budget .after) (runOf s m c budget .cursor) again)

@@ -1,0 +1,30 @@
+-- One turn: its outcome, and the machine and the cursor that it leaves.
+use Rattle.machine.specs.declared.refusal.Outcome.{Outcome}
+use Rattle.machine.specs.declared.refusal.Outcome.the-variants.{Idle}
+use Rattle.machine.specs.Machine.{Machine}
+use Rattle.step.specs.Step.{Step, offerOf}
+use Rattle.turns.specs.declared.cursor.Cursor.{Cursor}
+use Rattle.turns.specs.declared.streams.Offered.{Offered}
+use Rattle.turns.specs.declared.streams.Offered.the-variants.{NextWord, NoWord}
+use Rattle.turns.specs.Streams.{Streams, nextWord}
+use Rattle.turns.specs.Cursor.{movedOf}
+
+pub record Turn : Type 0 where
+  pub outcome : Outcome
+  pub after : Machine
+  pub cursor : Cursor
+
+abbrev pub turned : Outcome → Machine → Cursor → Turn
+turned o m c = record { outcome = o; after = m; cursor = c }
+
+-- a turn that offers a word
+abbrev pub offeredTurn : Step → Cursor → Turn
+offeredTurn x c = turned (x .outcome) (x .after) (movedOf (x .outcome) c)
+
+abbrev pub byWord : Machine → Cursor → Offered → Turn
+byWord m c (NextWord w) = offeredTurn (offerOf m (c .next) w) c
+byWord m c NoWord = turned Idle m (movedOf Idle c)
+
+-- offers the next thread's word, or does nothing if its stream is used up
+unfoldable pub turnOf : Streams → Machine → Cursor → Turn
+turnOf s m c = byWord m c (nextWord s c)
