@@ -17,7 +17,7 @@ use Rattle.format.proofs.Lawful.{accepts-not-long, accepts-not-good}
 use Rattle.image.specs.declared.Saved.the-variants.{Written, NotSaved}
 use Rattle.image.specs.declared.LoadAnswer.{LoadAnswer}
 use Rattle.image.specs.declared.LoadAnswer.the-variants.{Taken, NotLoaded}
-use Rattle.image.specs.Image.{image, imageSize}
+use Rattle.layout.specs.Image.{image, imageSize}
 use Rattle.image.specs.Calls.{Saving, savedNumbers, saving, saveOf, Loading, loadNumbers, loading, loadAnswer, machineAfter, loadOf}
 
 -- what a test by a call's result says of the test that the result is

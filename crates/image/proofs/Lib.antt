@@ -1,6 +1,2 @@
-pub mod MarkLaws
-pub mod ControlLaws
-pub mod ImageLaws
-pub mod Parts
 pub mod Answers
 pub mod Trips

@@ -15,11 +15,11 @@ use Rattle.format.specs.Format.{accepts}
 use Rattle.format.proofs.Lawful.{whole-accepts, whole-get, whole-put, whole-ok}
 use Rattle.image.specs.declared.Saved.the-variants.{Written}
 use Rattle.image.specs.declared.LoadAnswer.the-variants.{Taken}
-use Rattle.image.specs.Image.{image, imageSize}
+use Rattle.layout.specs.Image.{image, imageSize}
 use Rattle.image.specs.Calls.{saving, saveOf, loading, machineAfter, loadOf}
 use Rattle.image.specs.Promises.{RoundTrips, ImageFacts}
-use Rattle.image.proofs.MarkLaws.{mark-at}
-use Rattle.image.proofs.ImageLaws.{image-lawful, formed-ok, ok-formed}
+use Rattle.layout.proofs.MarkLaws.{mark-at}
+use Rattle.layout.proofs.ImageLaws.{image-lawful, formed-ok, ok-formed}
 use Rattle.image.proofs.Answers.{save-written, written-means, judged-taken, taken-means, load-taken}
 
 -- from the start of a list

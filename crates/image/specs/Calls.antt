@@ -14,7 +14,7 @@ use Rattle.image.specs.declared.Saved.{Saved}
 use Rattle.image.specs.declared.Saved.the-variants.{Written, NotSaved}
 use Rattle.image.specs.declared.LoadAnswer.{LoadAnswer}
 use Rattle.image.specs.declared.LoadAnswer.the-variants.{Taken, NotLoaded}
-use Rattle.image.specs.Image.{image, imageSize}
+use Rattle.layout.specs.Image.{image, imageSize}
 
 -- document 01's numbers of an answer, with 9's offset
 abbrev pub savedNumbers : Saved → List ℕ

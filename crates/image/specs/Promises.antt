@@ -11,8 +11,8 @@ use Rattle.machine.specs.Machine.{Machine}
 use Rattle.machine.specs.Formed.{sized, wellFormed}
 use Rattle.image.specs.declared.Saved.the-variants.{Written}
 use Rattle.image.specs.declared.LoadAnswer.the-variants.{Taken}
-use Rattle.image.specs.Marks.{marksFormat}
-use Rattle.image.specs.Image.{image, imageSize}
+use Rattle.layout.specs.Marks.{marksFormat}
+use Rattle.layout.specs.Image.{image, imageSize}
 use Rattle.image.specs.Calls.{saving, saveOf, loading, loadOf}
 
 pub record RoundTrips : Type 0 where

@@ -4,16 +4,11 @@ ghost use Rattle.machine.specs.Machine.{machine, stores};
 ghost use Rattle.image.specs.Calls.{savedNumbers, saving, saveOf, loadNumbers, loading, loadAnswer, loadOf};
 ghost use Rattle.image.specs.Promises.{ImageFacts, RoundTrips};
 
-mod first;
-mod marks;
-mod places;
-mod stores;
-mod waits;
 mod whole;
 
 use machine::control::Control;
 use machine::refusal::Refusal;
-use places::IMAGE_BYTES;
+use layout::IMAGE_BYTES;
 
 // What comes of saving.
 pub enum Saved {

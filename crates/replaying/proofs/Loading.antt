@@ -12,7 +12,7 @@ use Rattle.machine.specs.Formed.{sized, wellFormed}
 use Rattle.format.specs.Format.{accepts}
 use Rattle.image.specs.declared.LoadAnswer.{LoadAnswer}
 use Rattle.image.specs.declared.LoadAnswer.the-variants.{Taken, NotLoaded}
-use Rattle.image.specs.Image.{image, imageSize}
+use Rattle.layout.specs.Image.{image, imageSize}
 use Rattle.image.specs.Calls.{Loading, loading, loadAnswer, machineAfter, loadOf}
 use Rattle.image.proofs.Answers.{taken-means}
 use Rattle.image.proofs.Trips.{round-trips}

@@ -7,7 +7,7 @@ use native.Mathlib.Omega.{arith}
 use lib.ListN.{length, take, drop, length-drop}
 use lib.Seq.{take-append-le, drop-append-le}
 use Rattle.machine.specs.Machine.{Machine}
-use Rattle.image.specs.Image.{imageSize}
+use Rattle.layout.specs.Image.{imageSize}
 use Rattle.records.specs.declared.replay_script.ReplayRead.{ReplayRead}
 use Rattle.records.specs.declared.replay_script.ReplayRead.the-variants.{Whole, Faulty}
 use Rattle.records.specs.ReplayScript.{replayScriptOf}

@@ -11,7 +11,7 @@ use Rattle.machine.specs.declared.fresh.WholeMachine.{WholeMachine}
 use Rattle.machine.specs.Formed.{sized, formed, wellFormed}
 use Rattle.machine.specs.Fresh.{machineOf}
 use Rattle.machine.proofs.SizedFacts.{SizedFacts, sized-facts}
-use Rattle.image.specs.Image.{imageSize}
+use Rattle.layout.specs.Image.{imageSize}
 use Rattle.replaying.specs.Replay.{partsOf, replayOf, Split}
 
 pub split-short : (bs : List ℕ) → length bs < imageSize → Split bs (length bs)

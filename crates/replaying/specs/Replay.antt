@@ -8,7 +8,7 @@ use Rattle.machine.specs.declared.refusal.Refusal.{Refusal}
 use Rattle.machine.specs.declared.refusal.Refusal.the-variants.{BadThread, BadWord, BadField, BadLength, BadCursor, BadBudget, BadRounds, ShortOutput, BadImage, Malformed, BadPlace, WrongOwner}
 use Rattle.machine.specs.Machine.{Machine}
 use Rattle.format.specs.Format.{accepts}
-use Rattle.image.specs.Image.{image, imageSize}
+use Rattle.layout.specs.Image.{image, imageSize}
 use Rattle.run_rules.specs.Run.{Summary, runOf, summaryOf}
 use Rattle.records.specs.declared.replay_script.ReplayScript.{ReplayScript}
 use Rattle.records.specs.declared.replay_script.ReplayRead.{ReplayRead}

@@ -12,10 +12,10 @@ use Rattle.bits.proofs.Choices.{and-left, and-right}
 use Rattle.machine.specs.Machine.{Machine}
 use Rattle.machine.specs.Formed.{sized, formed, wellFormed}
 use Rattle.image.specs.declared.Saved.{Saved}
-use Rattle.image.specs.Image.{image, imageSize}
+use Rattle.layout.specs.Image.{image, imageSize}
 use Rattle.image.specs.Calls.{Saving, saving, saveOf}
 use Rattle.image.proofs.Answers.{save-written}
-use Rattle.image.proofs.ImageLaws.{image-lawful, formed-ok}
+use Rattle.layout.proofs.ImageLaws.{image-lawful, formed-ok}
 use Rattle.run_rules.specs.Run.{Summary}
 use Rattle.records.specs.declared.counts.Counts.{Counts}
 use Rattle.report.specs.Lines.{endLine}

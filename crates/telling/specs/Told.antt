@@ -3,7 +3,7 @@ use Prim.Native.Nat.{ℕ}
 use mathlib.Core.Bool.{Bool, true, false, cond}
 use mathlib.Core.List.{List, _++_}
 use Rattle.machine.specs.Machine.{Machine}
-use Rattle.image.specs.Image.{image}
+use Rattle.layout.specs.Image.{image}
 use Rattle.turns.specs.declared.ending.Ending.{Ending}
 use Rattle.turns.specs.declared.ending.Ending.the-variants.{Finished, Stuck, BudgetUsed, WordRefused, CallRefused}
 use Rattle.run_rules.specs.Run.{Summary}

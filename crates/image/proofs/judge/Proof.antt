@@ -1,6 +1,6 @@
 use native.Mathlib.Omega.{arith}
 use Rattle.image.proofs.Answers.{judged-unsized, judged-not-long, judged-not-good, judged-taken}
-use Rattle.image.specs.Image.{image}
+use Rattle.layout.specs.Image.{image}
 use Rattle.image.specs.declared.LoadAnswer.the-variants.{NotLoaded}
 use Rattle.format.proofs.Lawful.{accepts-yes}
 use Rattle.machine.specs.declared.refusal.Refusal.the-variants.{BadImage}

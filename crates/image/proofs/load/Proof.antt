@@ -6,7 +6,7 @@ use Rattle.machine.specs.Formed.{sized}
 use Rattle.machine.proofs.SizedFacts.{sized-facts}
 use Rattle.format.specs.Format.{accepts}
 use Rattle.format.proofs.Lawful.{accepts-whole}
-use Rattle.image.specs.Image.{image}
+use Rattle.layout.specs.Image.{image}
 use Rattle.image.specs.Calls.{loadAnswer}
 use Rattle.image.proofs.Answers.{load-numbered, taken-means, load-refused, load-taken}
 use borrow.Author.Needs.{needs}

@@ -1,0 +1,4 @@
+pub mod Parts
+pub mod MarkLaws
+pub mod ControlLaws
+pub mod ImageLaws
