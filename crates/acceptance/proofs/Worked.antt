@@ -36,9 +36,9 @@ use Rattle.effects.specs.Settings.{bankOf}
 use Rattle.effects.specs.Sources.{srcAAfter, srcBAfter}
 use Rattle.step.specs.Step.{passOf, machineAfter, stepped, stepOf}
 use Rattle.dest.proofs.Examples.{worked}
-use Rattle.bench.specs.Answers.{refused}
-use Rattle.bench.specs.Answers as bench
-use Rattle.bench.specs.DestRows.{DestStore, bankCheck, readRow32Of}
+use Rattle.answers.specs.Answers.{refused}
+use Rattle.answers.specs.Answers as bench
+use Rattle.dest_access.specs.DestRows.{DestStore, bankCheck, readRow32Of}
 use Rattle.expander.specs.declared.Carried.{Carried}
 use Rattle.expander.specs.Stream.{Emission, emission, streamOf, freshCarried}
 use Rattle.expander.specs.Call.{accepted, call, badLength, badRounds, shortOutput, doneWith, expandOf, anyTemplate1}

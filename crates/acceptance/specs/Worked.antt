@@ -22,8 +22,8 @@ use Rattle.effects.specs.Places.{configPlace}
 use Rattle.effects.specs.Settings.{bankOf}
 use Rattle.step.specs.Step.{Step, stepped, stepOf}
 use Rattle.dest.specs.Examples.{DestExamples}
-use Rattle.bench.specs.Answers.{refused, call}
-use Rattle.bench.specs.DestRows.{DestStore, readRow32Of}
+use Rattle.answers.specs.Answers.{refused, call}
+use Rattle.dest_access.specs.DestRows.{DestStore, readRow32Of}
 use Rattle.expander.specs.declared.Carried.{Carried}
 use Rattle.expander.specs.Stream.{freshCarried}
 use Rattle.expander.specs.Call.{accepted, expandOf}

@@ -6,7 +6,9 @@ ghost use Rattle.run_rules.specs.Kept.{RunKeeps};
 ghost use Rattle.run_rules.specs.StuckForGood.{StuckForGood};
 ghost use Rattle.dest.specs.Cover.{ViewsCover};
 ghost use Rattle.image.specs.Promises.{ImageFacts, RoundTrips};
-ghost use Rattle.bench.specs.Promises.{GprPromises, DestPromises, SourcePromises};
+ghost use Rattle.gpr_access.specs.Promises.{GprPromises};
+ghost use Rattle.dest_access.specs.Promises.{DestPromises};
+ghost use Rattle.source_access.specs.Promises.{SourcePromises};
 ghost use Rattle.expander.specs.Promises.{CutAnywhere};
 ghost use Rattle.acceptance.specs.Worked.{Worked};
 

@@ -2,10 +2,7 @@
 use crate::case::Case;
 use crate::lengths::lent;
 use crate::print;
-use bench::Access;
-use bench::dest_rows;
-use bench::gprs;
-use bench::sources;
+use answers::Access;
 use machine::control::Control;
 use seeded::controls::draw_control;
 use seeded::fills::fill_cells;
@@ -42,13 +39,13 @@ pub fn refill(
 
 pub fn read_gpr(case: Case, gprs: &[u32]) {
     let n = lent(gprs.len(), case.lengths, 0);
-    let answer = gprs::read_gpr(&gprs[..n], case.first, case.second);
+    let answer = gpr_access::read_gpr(&gprs[..n], case.first, case.second);
     print::print_read(answer);
 }
 
 pub fn write_gpr(case: Case, gprs: &mut [u32]) {
     let n = lent(gprs.len(), case.lengths, 0);
-    let answer = gprs::write_gpr(&mut gprs[..n], case.first, case.second, case.third);
+    let answer = gpr_access::write_gpr(&mut gprs[..n], case.first, case.second, case.third);
     let sum = sums::add_words(sums::start(), gprs);
     print::print_access(answer, sums::checksum(sum));
 }
@@ -66,7 +63,7 @@ fn ask_read16(case: Case, config: &[u32], dest: &[u16], marks: &[bool], out: &mu
     let d = lent(dest.len(), case.lengths, 2);
     let m = lent(marks.len(), case.lengths, 4);
     let n = lent(out.len(), case.lengths, 6);
-    dest_rows::read_row16(
+    dest_access::read_row16(
         &config[..c],
         &dest[..d],
         &marks[..m],
@@ -89,7 +86,7 @@ fn ask_read32(case: Case, config: &[u32], dest: &[u16], marks: &[bool], out: &mu
     let d = lent(dest.len(), case.lengths, 2);
     let m = lent(marks.len(), case.lengths, 4);
     let n = lent(out.len(), case.lengths, 6);
-    dest_rows::read_row32(
+    dest_access::read_row32(
         &config[..c],
         &dest[..d],
         &marks[..m],
@@ -118,7 +115,7 @@ fn ask_write16(
     let d = lent(dest.len(), case.lengths, 2);
     let m = lent(marks.len(), case.lengths, 4);
     let n = lent(cells.len(), case.lengths, 6);
-    dest_rows::write_row16(
+    dest_access::write_row16(
         &config[..c],
         &mut dest[..d],
         &mut marks[..m],
@@ -152,7 +149,7 @@ fn ask_write32(
     let d = lent(dest.len(), case.lengths, 2);
     let m = lent(marks.len(), case.lengths, 4);
     let n = lent(cells.len(), case.lengths, 6);
-    dest_rows::write_row32(
+    dest_access::write_row32(
         &config[..c],
         &mut dest[..d],
         &mut marks[..m],
@@ -190,7 +187,7 @@ fn ask_source(
     let a = lent(src_a.len(), case.lengths, 0);
     let b = lent(src_b.len(), case.lengths, 2);
     let n = lent(cells.len(), case.lengths, 4);
-    sources::write_source_row(
+    source_access::write_source_row(
         control,
         &mut src_a[..a],
         &mut src_b[..b],
@@ -231,7 +228,7 @@ pub fn write_source_row(case: Case, src_a: &mut [u32], src_b: &mut [u32]) {
 pub fn show_row<'a>(case: Case, src_a: &'a [u32], src_b: &'a [u32]) {
     let a = lent(src_a.len(), case.lengths, 0);
     let b = lent(src_b.len(), case.lengths, 2);
-    let shown = sources::show_row(
+    let shown = source_access::show_row(
         &src_a[..a],
         &src_b[..b],
         case.first,

@@ -1,6 +1,6 @@
 // A line: the answer and a checksum.
-use bench::Access;
-use bench::gprs::GprRead;
+use answers::Access;
+use gpr_access::GprRead;
 use libc::STDOUT_FILENO;
 use machine::refusal::Refusal;
 use machine::refusal::refusal_number;

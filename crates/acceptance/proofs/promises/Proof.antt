@@ -5,9 +5,9 @@ use Rattle.step.proofs.Kept.{keeps-formed}
 use Rattle.step.proofs.Unchanged.{unchanged}
 use Rattle.dest.proofs.Cover.{views-cover}
 use Rattle.image.proofs.Trips.{image-facts, round-trips}
-use Rattle.bench.proofs.DestBack.{dest-promises}
-use Rattle.bench.proofs.GprBack.{gpr-promises}
-use Rattle.bench.proofs.SourceBack.{source-promises}
+use Rattle.dest_access.proofs.DestBack.{dest-promises}
+use Rattle.gpr_access.proofs.GprBack.{gpr-promises}
+use Rattle.source_access.proofs.SourceBack.{source-promises}
 use Rattle.expander.proofs.Folds.{cut}
 use Rattle.acceptance.proofs.Worked.{all-worked}
 use Rattle.acceptance.proofs.promises.Statement.{statement}

@@ -1,7 +1,0 @@
-pub mod Answers
-pub mod Cells
-pub mod Gprs
-pub mod DestRows
-pub mod Sources
-pub mod Places
-pub mod Promises

@@ -1,0 +1,5 @@
+pub mod Facts
+pub mod Views
+pub mod StoredRows
+pub mod ViewBack
+pub mod DestBack

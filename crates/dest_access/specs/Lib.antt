@@ -1,0 +1,3 @@
+pub mod DestRows
+pub mod Places
+pub mod Promises

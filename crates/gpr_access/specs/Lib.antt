@@ -1,0 +1,2 @@
+pub mod Gprs
+pub mod Promises
