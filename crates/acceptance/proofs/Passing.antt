@@ -10,19 +10,19 @@ use Rattle.machine.specs.declared.refusal.StallCause.the-variants.{WaitHolds}
 use Rattle.machine.specs.Control.{waitOf}
 use Rattle.machine.specs.Formed.{sized, formed, wellFormed}
 use Rattle.machine.specs.Machine.{Machine}
-use Rattle.words.specs.declared.instruction.ConfigWord.{ConfigWord}
-use Rattle.words.specs.declared.instruction.ScalarWord.{ScalarWord}
-use Rattle.words.specs.declared.instruction.Instruction.{Instruction}
-use Rattle.words.specs.declared.instruction.Instruction.the-variants.{Scalar, Config}
-use Rattle.words.specs.declared.instruction.Decoded.the-variants.{Decodes, Rejects}
-use Rattle.words.specs.Decode.{decodeOf}
+use Rattle.word_rules.specs.declared.instruction.ConfigWord.{ConfigWord}
+use Rattle.word_rules.specs.declared.instruction.ScalarWord.{ScalarWord}
+use Rattle.word_rules.specs.declared.instruction.Instruction.{Instruction}
+use Rattle.word_rules.specs.declared.instruction.Instruction.the-variants.{Scalar, Config}
+use Rattle.word_rules.specs.declared.instruction.Decoded.the-variants.{Decodes, Rejects}
+use Rattle.word_rules.specs.Decode.{decodeOf}
 use Rattle.gate.specs.declared.Gate.{Gate}
 use Rattle.gate.specs.declared.Gate.the-variants.{Open, Closed}
 use Rattle.gate.specs.Waits.{holdsNow}
 use Rattle.gate.specs.Gate.{blockOf, gateOf}
-use Rattle.step.specs.declared.CallCheck.the-variants.{Fine}
-use Rattle.step.specs.Step.{stepped, passOf, checkOf, stepOf}
-use Rattle.step.proofs.Ways.{check-fine, call-offered, word-decoded, word-refused, gate-open}
+use Rattle.step_rules.specs.declared.CallCheck.the-variants.{Fine}
+use Rattle.step_rules.specs.Step.{stepped, passOf, checkOf, stepOf}
+use Rattle.step_rules.proofs.Ways.{check-fine, call-offered, word-decoded, word-refused, gate-open}
 use Rattle.acceptance.specs.Worked.{Ready}
 
 fine : (m : Machine) (t : ℕ) → wellFormed m ≡ true → t < 3 → Fine ≡ checkOf m t

@@ -17,15 +17,15 @@ use Rattle.machine.specs.Numbers.{numberOf}
 use Rattle.machine.specs.Sizes.{configCount, destCount, markCount}
 use Rattle.machine.specs.Machine.{Machine}
 use Rattle.machine.specs.Units.{gpr, halfRegister}
-use Rattle.words.specs.declared.instruction.Operand.the-variants.{Constant, Register}
-use Rattle.words.specs.declared.instruction.ScalarWord.{ScalarWord}
-use Rattle.words.specs.declared.instruction.ScalarWord.the-variants.{SetDmaReg, AddDmaReg, MulDmaReg}
-use Rattle.words.specs.declared.instruction.ConfigWord.{ConfigWord}
-use Rattle.words.specs.declared.instruction.ConfigWord.the-variants.{WrCfg, RmwCib}
-use Rattle.words.specs.declared.instruction.Instruction.the-variants.{Scalar, Config}
-use Rattle.words.specs.declared.instruction.Decoded.the-variants.{Decodes, Rejects}
-use Rattle.words.specs.Decode.{decodeOf}
-use Rattle.words.proofs.Examples.{low-half-of-four, add-constant, multiply-registers, second-byte, last-index, past-last-index, four-words}
+use Rattle.word_rules.specs.declared.instruction.Operand.the-variants.{Constant, Register}
+use Rattle.word_rules.specs.declared.instruction.ScalarWord.{ScalarWord}
+use Rattle.word_rules.specs.declared.instruction.ScalarWord.the-variants.{SetDmaReg, AddDmaReg, MulDmaReg}
+use Rattle.word_rules.specs.declared.instruction.ConfigWord.{ConfigWord}
+use Rattle.word_rules.specs.declared.instruction.ConfigWord.the-variants.{WrCfg, RmwCib}
+use Rattle.word_rules.specs.declared.instruction.Instruction.the-variants.{Scalar, Config}
+use Rattle.word_rules.specs.declared.instruction.Decoded.the-variants.{Decodes, Rejects}
+use Rattle.word_rules.specs.Decode.{decodeOf}
+use Rattle.word_rules.proofs.Examples.{low-half-of-four, add-constant, multiply-registers, second-byte, last-index, past-last-index, four-words}
 use Rattle.control.specs.After.{controlAfter}
 use Rattle.effects.specs.After.{settingsAfter, storesAfter}
 use Rattle.effects.specs.Gprs.{gprsAfter, scalarGprs}
@@ -34,14 +34,14 @@ use Rattle.effects.specs.Copies.{copied}
 use Rattle.effects.specs.Marks.{marksAfter}
 use Rattle.effects.specs.Settings.{bankOf}
 use Rattle.effects.specs.Sources.{srcAAfter, srcBAfter}
-use Rattle.step.specs.Step.{passOf, machineAfter, stepped, stepOf}
+use Rattle.step_rules.specs.Step.{passOf, machineAfter, stepped, stepOf}
 use Rattle.dest.proofs.Examples.{worked}
-use Rattle.answers.specs.Answers.{refused}
-use Rattle.answers.specs.Answers as bench
+use Rattle.answers.specs.Answers.{accepted, refused}
+use Rattle.answers.specs.Answers as answers
 use Rattle.dest_access.specs.DestRows.{DestStore, bankCheck, readRow32Of}
 use Rattle.expander.specs.declared.Carried.{Carried}
 use Rattle.expander.specs.Stream.{Emission, emission, streamOf, freshCarried}
-use Rattle.expander.specs.Call.{accepted, call, badLength, badRounds, shortOutput, doneWith, expandOf, anyTemplate1}
+use Rattle.expander.specs.Call.{call, badLength, badRounds, shortOutput, doneWith, expandOf, anyTemplate1}
 use Rattle.expander.proofs.Examples.{examples}
 use Rattle.acceptance.specs.Worked.{Ready, Worked, leavesGprs, leavesConfig, place, gprIn, wordPlace, wordIn}
 use Rattle.acceptance.proofs.Passing.{refusing, scalar-passes, config-passes}
@@ -145,7 +145,7 @@ round-template m2 m3 m4 m5 m6 m7 m8 c out h =
 
 past-view : (config : List ℕ) (s : DestStore) (bank : ℕ) (out : List ℕ) →
     length config ≡ configCount → length (s .dest) ≡ destCount → length (s .marks) ≡ markCount → bank ≤ 1 →
-    readRow32Of config s bank 512 out ≡ bench.call (refused 11 []) out
+    readRow32Of config s bank 512 out ≡ answers.call (refused 11 []) out
 unfolding readRow32Of bankCheck
 past-view config s bank out p q r h = rw (p, q, r, le-leb bank 1 h)
 

@@ -20,13 +20,13 @@ use Rattle.gate.specs.Gate.{blockOf}
 use Rattle.control.specs.After.{dropLifted}
 use Rattle.effects.specs.Places.{configPlace}
 use Rattle.effects.specs.Settings.{bankOf}
-use Rattle.step.specs.Step.{Step, stepped, stepOf}
+use Rattle.step_rules.specs.Step.{Step, stepped, stepOf}
 use Rattle.dest.specs.Examples.{DestExamples}
-use Rattle.answers.specs.Answers.{refused, call}
+use Rattle.answers.specs.Answers.{accepted, refused, call}
 use Rattle.dest_access.specs.DestRows.{DestStore, readRow32Of}
 use Rattle.expander.specs.declared.Carried.{Carried}
 use Rattle.expander.specs.Stream.{freshCarried}
-use Rattle.expander.specs.Call.{accepted, expandOf}
+use Rattle.expander.specs.Call.{expandOf}
 use Rattle.expander.specs.Call as expanding
 
 -- a well-formed machine, one of its threads, and no wait of that thread that stalls words of block bit b

@@ -1,10 +1,10 @@
 // What the customer is promised and no single function can state, in one place.
-ghost use Rattle.step.specs.Kept.{KeepsFormed};
-ghost use Rattle.step.specs.Unchanged.{Unchanged};
+ghost use Rattle.step_rules.specs.Kept.{KeepsFormed};
+ghost use Rattle.step_rules.specs.Unchanged.{Unchanged};
 ghost use Rattle.run_rules.specs.Isolation.{Isolated};
 ghost use Rattle.run_rules.specs.Kept.{RunKeeps};
 ghost use Rattle.run_rules.specs.StuckForGood.{StuckForGood};
-ghost use Rattle.dest.specs.Cover.{ViewsCover};
+ghost use Rattle.dest_cover.specs.Cover.{ViewsCover};
 ghost use Rattle.image.specs.Promises.{ImageFacts, RoundTrips};
 ghost use Rattle.gpr_access.specs.Promises.{GprPromises};
 ghost use Rattle.dest_access.specs.Promises.{DestPromises};

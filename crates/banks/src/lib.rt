@@ -1,5 +1,6 @@
 // What SETDVALID and CLEARDVALID do to bank owners and pointers.
 pub mod owners;
+
 ghost use mathlib.Core.Path.{_≡_};
 ghost use mathlib.Core.Bool.{true};
 ghost use Prim.Native.Nat.{_<_};

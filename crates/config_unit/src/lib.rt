@@ -1,20 +1,21 @@
 // The words of the config unit, which move words between GPRs and the thread's Config bank.
 mod merge;
 pub mod settings;
+
 ghost use mathlib.Core.Path.{_≡_};
 ghost use Prim.Native.Nat.{_<_};
 ghost use lib.ListN.{length};
-ghost use Rattle.words.specs.InRange.{ConfigInRange};
+ghost use Rattle.word_rules.specs.InRange.{ConfigInRange};
 ghost use Rattle.effects.specs.Settings.{configSettings};
 ghost use Rattle.effects.specs.Gprs.{afterRdCfg, configGprs};
 ghost use Rattle.effects.specs.Config.{afterWrCfg, afterRmwCib, configWords};
-use effects::copy::copy_words;
 use crate::merge::with_merged;
-use effects::places::config_place;
 use crate::settings::set_setting;
+use effects::copy::copy_words;
+use effects::places::config_place;
 use machine::units::GprNumber;
 use machine::units::gpr_place;
-use words::instruction::ConfigWord;
+use word_rules::instruction::ConfigWord;
 
 // RDCFG.
 fn read_config(gprs: &mut [u32], config: &[u32], t: usize, bank: usize, gpr: GprNumber, index: u16)

@@ -8,12 +8,12 @@ use Rattle.machine.specs.declared.control.Wait.{Wait}
 use Rattle.machine.specs.declared.control.Wait.the-variants.{Clear, OnStall, OnSemaphore}
 use Rattle.machine.specs.declared.control.Control.{Control}
 use Rattle.machine.specs.Control.{withThread, withMutexes, withSemaphores, waitOf}
-use Rattle.words.specs.declared.instruction.Instruction.{Instruction}
-use Rattle.words.specs.declared.instruction.Instruction.the-variants.{Nop, Scalar, Sync, Config, Matrix}
-use Rattle.words.specs.declared.instruction.SyncWord.{SyncWord}
-use Rattle.words.specs.declared.instruction.SyncWord.the-variants.{AtGetM, AtRelM, StallWait, SemInit, SemPost, SemGet, SemWait}
-use Rattle.words.specs.declared.instruction.MatrixWord.{MatrixWord}
-use Rattle.words.specs.declared.instruction.MatrixWord.the-variants.{TrnspSrcB, MovB2A, ZeroAcc, ClearDValid, SetDValid}
+use Rattle.word_rules.specs.declared.instruction.Instruction.{Instruction}
+use Rattle.word_rules.specs.declared.instruction.Instruction.the-variants.{Nop, Scalar, Sync, Config, Matrix}
+use Rattle.word_rules.specs.declared.instruction.SyncWord.{SyncWord}
+use Rattle.word_rules.specs.declared.instruction.SyncWord.the-variants.{AtGetM, AtRelM, StallWait, SemInit, SemPost, SemGet, SemWait}
+use Rattle.word_rules.specs.declared.instruction.MatrixWord.{MatrixWord}
+use Rattle.word_rules.specs.declared.instruction.MatrixWord.the-variants.{TrnspSrcB, MovB2A, ZeroAcc, ClearDValid, SetDValid}
 use Rattle.semaphores.specs.declared.SemaphoreChange.{SemaphoreChange}
 use Rattle.semaphores.specs.declared.SemaphoreChange.the-variants.{Init, Up, Down}
 use Rattle.semaphores.specs.Semaphores.{changeMasked}

@@ -6,16 +6,16 @@ ghost use lib.ListN.{set};
 ghost use Rattle.machine.specs.declared.control.Wait.the-variants.{Clear};
 ghost use Rattle.machine.specs.Control.{withMutexes, waitOf};
 ghost use Rattle.machine.specs.Formed.{controlFormed};
-ghost use Rattle.words.specs.InRange.{InRange, SyncInRange};
+ghost use Rattle.word_rules.specs.InRange.{InRange, SyncInRange};
 ghost use Rattle.control.specs.After.{withWait, isWait, dropLifted, released, changeSemaphores, syncAfter, matrixAfter, wordAfter, controlAfter};
-use semaphores::SemaphoreChange;
 use gate::waits;
 use machine::control::Control;
 use machine::control::Thread;
 use machine::control::Wait;
-use words::instruction::Instruction;
-use words::instruction::MatrixWord;
-use words::instruction::SyncWord;
+use semaphores::SemaphoreChange;
+use word_rules::instruction::Instruction;
+use word_rules::instruction::MatrixWord;
+use word_rules::instruction::SyncWord;
 
 fn with_wait(c: Control, t: usize, w: Wait) -> Control
     requires { ⌜ t < 3 ⌝ }

@@ -1,5 +1,4 @@
 pub mod Rows
 pub mod Flags
 pub mod Maps
-pub mod Cover
 pub mod Examples

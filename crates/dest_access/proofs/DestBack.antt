@@ -6,7 +6,7 @@ use mathlib.Core.Path.{_≡_, sym, _∙_}
 use native.Mathlib.Omega.{arith}
 use lib.ListN.{length, length-map}
 use Rattle.bits.specs.Ranges.{allAtMost}
-use Rattle.dest.proofs.Apart.{storage16-lt, storage16-apart, high32-apart, low32-apart, high-low-apart}
+use Rattle.dest_cover.proofs.Apart.{storage16-lt, storage16-apart, high32-apart, low32-apart, high-low-apart}
 use Rattle.dest.proofs.Bounds.{high32-lt, low32-lt}
 use Rattle.dest.specs.Rows.{rows16, rows32, storageRows, view16, view32}
 use Rattle.dest.specs.declared.flags.Flags.{Flags}

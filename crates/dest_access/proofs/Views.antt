@@ -8,7 +8,7 @@ use lib.Dec.{ltb}
 use lib.ListN.{length}
 use borrow.Author.Tests.{eq-eqb, ne-eqb, le-leb, lt-leb, lt-ltb}
 use Rattle.bits.proofs.Choices.{cond-cases}
-use Rattle.dest.proofs.Apart.{storage16-lt}
+use Rattle.dest_cover.proofs.Apart.{storage16-lt}
 use Rattle.dest.proofs.Bounds.{high32-lt, low32-lt}
 use Rattle.dest.specs.Rows.{rows16, rows32, storageRows, view16, view32, row16Of, row32Of}
 use Rattle.dest.specs.declared.rows.Row16.{Row16}

@@ -1,22 +1,23 @@
 // Whole Dest rows, in the 16-bit and in the 32-bit view. The bench names the Config bank whose flags set the maps.
 mod places;
 mod stored;
+
 ghost use mathlib.Core.Path.{_≡_};
 ghost use Rattle.answers.specs.Answers.{told, call};
 ghost use Rattle.dest_access.specs.DestRows.{destStore, readRow16Of, writeRow16Of, readRow32Of, writeRow32Of};
 ghost use Rattle.dest_access.specs.Promises.{DestPromises};
-use answers::Access;
-use row_cells::halves_of;
-use row_cells::put_halves;
-use row_cells::put_wide;
 use crate::places::Place16;
 use crate::places::Place32;
 use crate::places::find16;
 use crate::places::find32;
 use crate::stored::read_stored;
 use crate::stored::write_stored;
+use answers::Access;
 use machine::refusal::Refusal;
 use machine::sizes::ROW_CELLS;
+use row_cells::halves_of;
+use row_cells::put_halves;
+use row_cells::put_wide;
 
 // Reads a row of the 16-bit view into the first sixteen of `out`.
 pub fn read_row16(

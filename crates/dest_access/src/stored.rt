@@ -5,9 +5,9 @@ ghost use lib.ListN.{length};
 ghost use Rattle.dest.specs.Rows.{storageRows};
 ghost use Rattle.machine.specs.Sizes.{rowCells, destCount, markCount};
 ghost use Rattle.dest_access.specs.DestRows.{destStore, storedRow, withStoredRow};
-use row_cells::put_halves;
 use dest::rows::StorageRow;
 use machine::sizes::ROW_CELLS;
+use row_cells::put_halves;
 
 // The cells of a storage row, zeros if it is invalid. Internal: Dest has its size, and the row is in range.
 pub fn read_stored(dest: &[u16], marks: &[bool], row: StorageRow) -> [u16; ROW_CELLS]

@@ -11,9 +11,9 @@ use Rattle.dest.specs.declared.flags.Flags.{Flags}
 use Rattle.dest.specs.declared.rows.StorageRow.{StorageRow}
 use Rattle.dest.specs.Rows.{storageRow}
 use Rattle.dest.specs.Maps.{high32, low32}
-use Rattle.dest.proofs.Cover.{views-cover}
+use Rattle.dest_cover.proofs.Cover.{views-cover}
 use Rattle.machine.specs.Sizes.{markCount}
-use Rattle.words.specs.MatrixWords.{viewRows}
+use Rattle.word_rules.specs.MatrixWords.{viewRows}
 use Rattle.effects.specs.Marks.{clearRows, afterZeroAcc}
 use Rattle.effects.proofs.MarkLaws.{rows-cleared, clear-long}
 

@@ -11,10 +11,10 @@ use Rattle.bits.proofs.Ranges.{at-most-set}
 use Rattle.machine.specs.Sizes.{halfMost, cellMost, wordMost}
 use Rattle.machine.specs.Machine.{Stores}
 use Rattle.machine.specs.Formed.{storesSized, storesFormed}
-use Rattle.words.specs.declared.instruction.ConfigWord.the-variants.{WrCfg, RdCfg, SetC16, RmwCib}
-use Rattle.words.specs.declared.instruction.Instruction.{Instruction}
-use Rattle.words.specs.declared.instruction.Instruction.the-variants.{Nop, Scalar, Sync, Config, Matrix}
-use Rattle.words.specs.InRange.{InRange}
+use Rattle.word_rules.specs.declared.instruction.ConfigWord.the-variants.{WrCfg, RdCfg, SetC16, RmwCib}
+use Rattle.word_rules.specs.declared.instruction.Instruction.{Instruction}
+use Rattle.word_rules.specs.declared.instruction.Instruction.the-variants.{Nop, Scalar, Sync, Config, Matrix}
+use Rattle.word_rules.specs.InRange.{InRange}
 use Rattle.effects.specs.Settings.{bankOf}
 use Rattle.effects.specs.After.{settingsAfter, storesAfter}
 use Rattle.effects.proofs.Lengths.{gprs-long, config-long, marks-long, srcA-long, srcB-long}

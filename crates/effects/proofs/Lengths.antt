@@ -5,11 +5,11 @@ use mathlib.Core.Bool.{Bool}
 use mathlib.Core.List.{List}
 use lib.ListN.{length, length-set}
 use Rattle.bits.proofs.Choices.{cond-both}
-use Rattle.words.specs.declared.instruction.ScalarWord.the-variants.{SetDmaReg, AddDmaReg, MulDmaReg, DmaNop}
-use Rattle.words.specs.declared.instruction.ConfigWord.the-variants.{WrCfg, RdCfg, SetC16, RmwCib}
-use Rattle.words.specs.declared.instruction.MatrixWord.the-variants.{TrnspSrcB, MovB2A, ZeroAcc, ClearDValid, SetDValid}
-use Rattle.words.specs.declared.instruction.Instruction.{Instruction}
-use Rattle.words.specs.declared.instruction.Instruction.the-variants.{Nop, Scalar, Sync, Config, Matrix}
+use Rattle.word_rules.specs.declared.instruction.ScalarWord.the-variants.{SetDmaReg, AddDmaReg, MulDmaReg, DmaNop}
+use Rattle.word_rules.specs.declared.instruction.ConfigWord.the-variants.{WrCfg, RdCfg, SetC16, RmwCib}
+use Rattle.word_rules.specs.declared.instruction.MatrixWord.the-variants.{TrnspSrcB, MovB2A, ZeroAcc, ClearDValid, SetDValid}
+use Rattle.word_rules.specs.declared.instruction.Instruction.{Instruction}
+use Rattle.word_rules.specs.declared.instruction.Instruction.the-variants.{Nop, Scalar, Sync, Config, Matrix}
 use Rattle.effects.specs.Gprs.{gprsAfter}
 use Rattle.effects.specs.Config.{configAfter}
 use Rattle.effects.specs.Marks.{marksAfter}

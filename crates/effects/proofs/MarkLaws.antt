@@ -14,8 +14,8 @@ use borrow.Author.Tests.{eqb-true}
 use Rattle.dest.specs.declared.flags.Flags.{Flags}
 use Rattle.dest.specs.Rows.{view16, view32}
 use Rattle.dest.specs.Maps.{storage16, high32, low32}
-use Rattle.words.specs.MatrixWords.{viewRows}
-use Rattle.words.specs.InRange.{PlaceInView}
+use Rattle.word_rules.specs.MatrixWords.{viewRows}
+use Rattle.word_rules.specs.InRange.{PlaceInView}
 use Rattle.effects.specs.Marks.{clearRow, clearRows, LiesIn, RowsCleared, firstRow, rowCount}
 
 -- one turn of a loop that clears, and its end

@@ -12,12 +12,12 @@ use Rattle.bits.proofs.Ranges.{at-most-at, at-most-set}
 use Rattle.machine.specs.declared.units.HalfRegister.{HalfRegister}
 use Rattle.machine.specs.Sizes.{cellMost, wordMost}
 use Rattle.machine.specs.Units.{isHighHalf}
-use Rattle.words.specs.declared.instruction.ScalarWord.the-variants.{SetDmaReg, AddDmaReg, MulDmaReg, DmaNop}
-use Rattle.words.specs.declared.instruction.ConfigWord.the-variants.{WrCfg, RdCfg, SetC16, RmwCib}
-use Rattle.words.specs.declared.instruction.MatrixWord.the-variants.{TrnspSrcB, MovB2A, ZeroAcc, ClearDValid, SetDValid}
-use Rattle.words.specs.declared.instruction.Instruction.{Instruction}
-use Rattle.words.specs.declared.instruction.Instruction.the-variants.{Nop, Scalar, Sync, Config, Matrix}
-use Rattle.words.specs.InRange.{InRange}
+use Rattle.word_rules.specs.declared.instruction.ScalarWord.the-variants.{SetDmaReg, AddDmaReg, MulDmaReg, DmaNop}
+use Rattle.word_rules.specs.declared.instruction.ConfigWord.the-variants.{WrCfg, RdCfg, SetC16, RmwCib}
+use Rattle.word_rules.specs.declared.instruction.MatrixWord.the-variants.{TrnspSrcB, MovB2A, ZeroAcc, ClearDValid, SetDValid}
+use Rattle.word_rules.specs.declared.instruction.Instruction.{Instruction}
+use Rattle.word_rules.specs.declared.instruction.Instruction.the-variants.{Nop, Scalar, Sync, Config, Matrix}
+use Rattle.word_rules.specs.InRange.{InRange}
 use Rattle.effects.specs.Gprs.{gprOf, operandOf, withHalf, gprsAfter}
 use Rattle.effects.specs.Config.{configAfter}
 use Rattle.effects.specs.Sources.{srcAAfter, srcBAfter}

@@ -2,8 +2,8 @@
 use Prim.Native.Nat.{ℕ}
 use mathlib.Core.List.{List}
 use Rattle.machine.specs.Machine.{Stores, stores}
-use Rattle.words.specs.declared.instruction.Instruction.{Instruction}
-use Rattle.words.specs.declared.instruction.Instruction.the-variants.{Nop, Scalar, Sync, Config, Matrix}
+use Rattle.word_rules.specs.declared.instruction.Instruction.{Instruction}
+use Rattle.word_rules.specs.declared.instruction.Instruction.the-variants.{Nop, Scalar, Sync, Config, Matrix}
 use Rattle.effects.specs.Settings.{bankOf, configSettings}
 use Rattle.effects.specs.Gprs.{gprsAfter}
 use Rattle.effects.specs.Config.{configAfter}

@@ -7,10 +7,10 @@ use lib.ListN.{set, getD}
 use Rattle.bits.specs.Field.{downToFour, withByte}
 use Rattle.machine.specs.declared.units.GprNumber.{GprNumber}
 use Rattle.machine.specs.Units.{gpr, gprPlace}
-use Rattle.words.specs.declared.instruction.ConfigWord.{ConfigWord}
-use Rattle.words.specs.declared.instruction.ConfigWord.the-variants.{WrCfg, RdCfg, SetC16, RmwCib}
-use Rattle.words.specs.declared.instruction.Instruction.{Instruction}
-use Rattle.words.specs.declared.instruction.Instruction.the-variants.{Nop, Scalar, Sync, Config, Matrix}
+use Rattle.word_rules.specs.declared.instruction.ConfigWord.{ConfigWord}
+use Rattle.word_rules.specs.declared.instruction.ConfigWord.the-variants.{WrCfg, RdCfg, SetC16, RmwCib}
+use Rattle.word_rules.specs.declared.instruction.Instruction.{Instruction}
+use Rattle.word_rules.specs.declared.instruction.Instruction.the-variants.{Nop, Scalar, Sync, Config, Matrix}
 use Rattle.effects.specs.Places.{configPlace}
 use Rattle.effects.specs.Copies.{copied}
 use Rattle.effects.specs.Gprs.{gprOf}

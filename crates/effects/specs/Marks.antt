@@ -12,11 +12,11 @@ use Rattle.dest.specs.declared.rows.View32Row.{View32Row}
 use Rattle.dest.specs.Rows.{view16, view32}
 use Rattle.dest.specs.Flags.{flagWord, flagsOf}
 use Rattle.dest.specs.Maps.{storage16, high32, low32}
-use Rattle.words.specs.declared.instruction.MatrixWord.{MatrixWord}
-use Rattle.words.specs.declared.instruction.MatrixWord.the-variants.{TrnspSrcB, MovB2A, ZeroAcc, ClearDValid, SetDValid}
-use Rattle.words.specs.declared.instruction.Instruction.{Instruction}
-use Rattle.words.specs.declared.instruction.Instruction.the-variants.{Nop, Scalar, Sync, Config, Matrix}
-use Rattle.words.specs.MatrixWords.{viewRows}
+use Rattle.word_rules.specs.declared.instruction.MatrixWord.{MatrixWord}
+use Rattle.word_rules.specs.declared.instruction.MatrixWord.the-variants.{TrnspSrcB, MovB2A, ZeroAcc, ClearDValid, SetDValid}
+use Rattle.word_rules.specs.declared.instruction.Instruction.{Instruction}
+use Rattle.word_rules.specs.declared.instruction.Instruction.the-variants.{Nop, Scalar, Sync, Config, Matrix}
+use Rattle.word_rules.specs.MatrixWords.{viewRows}
 use Rattle.effects.specs.Places.{configPlace}
 
 -- the flags of the Dest maps in a Config bank

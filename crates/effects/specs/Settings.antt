@@ -3,8 +3,8 @@ use Prim.Native.Nat.{ℕ}
 use mathlib.Core.List.{List}
 use lib.ListN.{set, getD}
 use Rattle.bits.specs.Field.{field}
-use Rattle.words.specs.declared.instruction.ConfigWord.{ConfigWord}
-use Rattle.words.specs.declared.instruction.ConfigWord.the-variants.{WrCfg, RdCfg, SetC16, RmwCib}
+use Rattle.word_rules.specs.declared.instruction.ConfigWord.{ConfigWord}
+use Rattle.word_rules.specs.declared.instruction.ConfigWord.the-variants.{WrCfg, RdCfg, SetC16, RmwCib}
 use Rattle.effects.specs.Places.{settingPlace}
 
 -- a thread's Config bank: bit 0 of its ThreadConfig entry 0

@@ -3,10 +3,10 @@ use Prim.Native.Nat.{ℕ, _*_}
 use mathlib.Core.Bool.{Bool, cond}
 use mathlib.Core.List.{List}
 use Rattle.bits.specs.Field.{downToFour}
-use Rattle.words.specs.declared.instruction.MatrixWord.{MatrixWord}
-use Rattle.words.specs.declared.instruction.MatrixWord.the-variants.{TrnspSrcB, MovB2A, ZeroAcc, ClearDValid, SetDValid}
-use Rattle.words.specs.declared.instruction.Instruction.{Instruction}
-use Rattle.words.specs.declared.instruction.Instruction.the-variants.{Nop, Scalar, Sync, Config, Matrix}
+use Rattle.word_rules.specs.declared.instruction.MatrixWord.{MatrixWord}
+use Rattle.word_rules.specs.declared.instruction.MatrixWord.the-variants.{TrnspSrcB, MovB2A, ZeroAcc, ClearDValid, SetDValid}
+use Rattle.word_rules.specs.declared.instruction.Instruction.{Instruction}
+use Rattle.word_rules.specs.declared.instruction.Instruction.the-variants.{Nop, Scalar, Sync, Config, Matrix}
 use Rattle.effects.specs.Places.{rowPlace}
 use Rattle.effects.specs.Copies.{copied}
 use Rattle.effects.specs.Face.{faceTransposed}

@@ -6,6 +6,7 @@ use lib.Dec.{eqb, ltb}
 use lib.ListN.{length}
 use Rattle.bits.specs.Field.{flag}
 use Rattle.bits.specs.Overwrite.{over}
+use Rattle.answers.specs.Answers.{Told, accepted, refused}
 use Rattle.expander.specs.Stream.{Emission, opcode, streamOf}
 use Rattle.expander.specs.Templates.{nth}
 use Rattle.expander.specs.declared.Answer.{Answer}
@@ -14,21 +15,17 @@ use Rattle.expander.specs.declared.Carried.{Carried}
 use Rattle.machine.specs.Numbers.{numberOf, valuesOf}
 use Rattle.machine.specs.Sizes.{streamMost}
 
--- an answer as document 01 has it: the count of words written, or the number that comes back with its values
-pub data Told : Type 0 where
-  accepted : ℕ → Told
-  numbered : ℕ → List ℕ → Told
-
-abbrev pub told : Answer → Told
+-- the count of words written, or the number that comes back with its values
+abbrev pub told : Answer → Told ℕ
 told (Done n) = accepted n
-told (Refused r) = numbered (numberOf r) (valuesOf r)
+told (Refused r) = refused (numberOf r) (valuesOf r)
 
 pub record Call : Type 0 where
-  pub answer : Told
+  pub answer : Told ℕ
   pub carried : Carried
   pub output : List ℕ
 
-abbrev pub call : Told → Carried → List ℕ → Call
+abbrev pub call : Told ℕ → Carried → List ℕ → Call
 call a c out = record { answer = a; carried = c; output = out }
 
 -- a lent part of wrong length (the nine words), or a stream over 65,536 words
@@ -56,7 +53,7 @@ shortOutput out needed = ltb (length out) needed || ltb neededMost needed
 
 -- a refused call writes nothing and hands back the old state
 abbrev pub refusedBy : ℕ → Carried → List ℕ → Call
-refusedBy number c out = call (numbered number []) c out
+refusedBy number c out = call (refused number []) c out
 
 -- an accepted call fills the output from its start and leaves its rest
 abbrev pub doneWith : Emission → List ℕ → Call

@@ -5,7 +5,7 @@ use mathlib.Core.Bool.{Bool, true, false, cond}
 use Rattle.machine.specs.declared.control.Control.{Control}
 use Rattle.machine.specs.declared.refusal.StallCause.the-variants.{WaitHolds}
 use Rattle.machine.specs.Control.{waitOf}
-use Rattle.words.specs.declared.instruction.Instruction.{Instruction}
+use Rattle.word_rules.specs.declared.instruction.Instruction.{Instruction}
 use Rattle.gate.specs.declared.Gate.{Gate}
 use Rattle.gate.specs.declared.Gate.the-variants.{Closed}
 use Rattle.gate.specs.Gate.{waitStalls, wordGate, gateOf}

@@ -1,5 +1,6 @@
 // Whether a word may pass now. Nothing here is lent a store.
 pub mod waits;
+
 ghost use mathlib.Core.Path.{_≡_};
 ghost use mathlib.Core.Bool.{true, cond};
 ghost use Prim.Native.Nat.{_<_};
@@ -7,16 +8,16 @@ ghost use lib.Dec.{eqb};
 ghost use Rattle.gate.specs.declared.Gate.the-variants.{Open, Closed};
 ghost use Rattle.machine.specs.Control.{waitOf};
 ghost use Rattle.machine.specs.Formed.{controlFormed};
-ghost use Rattle.words.specs.InRange.{InRange, SyncInRange};
+ghost use Rattle.word_rules.specs.InRange.{InRange, SyncInRange};
 ghost use Rattle.gate.specs.Gate.{blockOf, namedBy, waitStalls, mutexOpen, syncGate, matrixGate, wordGate, gateOf};
 ghost use Rattle.gate.specs.Waits.{holdsNow};
 use banks::owners::matrix_owns;
 use machine::control::Control;
 use machine::control::Wait;
 use machine::refusal::StallCause;
-use words::instruction::Instruction;
-use words::instruction::MatrixWord;
-use words::instruction::SyncWord;
+use word_rules::instruction::Instruction;
+use word_rules::instruction::MatrixWord;
+use word_rules::instruction::SyncWord;
 
 pub enum Gate {
     Open,

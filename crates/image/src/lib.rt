@@ -6,9 +6,9 @@ ghost use Rattle.image.specs.Promises.{ImageFacts, RoundTrips};
 
 mod whole;
 
+use layout::IMAGE_BYTES;
 use machine::control::Control;
 use machine::refusal::Refusal;
-use layout::IMAGE_BYTES;
 
 // What comes of saving.
 pub enum Saved {

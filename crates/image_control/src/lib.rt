@@ -1,5 +1,6 @@
 // The image's first record: ThreadConfig and the control part.
 mod waits;
+
 ghost use mathlib.Core.Path.{_≡_};
 ghost use Prim.Native.Nat.{_+_, _*_, _≤_};
 ghost use lib.ListN.{length, drop};

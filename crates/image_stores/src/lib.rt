@@ -1,5 +1,6 @@
 // The image's records of the stores: kinds 2 to 7.
 mod marks;
+
 ghost use mathlib.Core.Path.{_≡_};
 ghost use mathlib.Core.List.{_++_};
 ghost use Prim.Native.Nat.{_+_, _*_, _≤_, _<_};

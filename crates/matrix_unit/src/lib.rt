@@ -1,17 +1,18 @@
 // The words of the matrix unit.
 mod marks;
+
 ghost use mathlib.Core.Path.{_≡_};
 ghost use Prim.Native.Nat.{_<_};
 ghost use lib.ListN.{length};
-ghost use Rattle.words.specs.InRange.{MatrixInRange};
+ghost use Rattle.word_rules.specs.InRange.{MatrixInRange};
 ghost use Rattle.effects.specs.Marks.{matrixMarks};
 ghost use Rattle.effects.specs.Sources.{afterMovB2A, matrixSrcA, matrixSrcB};
-use effects::copy::copy_words;
-use face::transpose_face;
 use crate::marks::zero_marks;
+use effects::copy::copy_words;
 use effects::places::row_place;
+use face::transpose_face;
 use machine::sizes::ROW_CELLS;
-use words::instruction::MatrixWord;
+use word_rules::instruction::MatrixWord;
 
 // MOVB2A.
 fn copy_rows(

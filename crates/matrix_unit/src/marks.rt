@@ -3,11 +3,10 @@ ghost use mathlib.Core.Path.{_≡_};
 ghost use Prim.Native.Nat.{_+_, _≤_, _<_};
 ghost use mathlib.Core.Bool.{false};
 ghost use lib.ListN.{length, replicate};
-ghost use Rattle.words.specs.MatrixWords.{viewRows};
-ghost use Rattle.words.specs.InRange.{PlaceInView};
+ghost use Rattle.word_rules.specs.MatrixWords.{viewRows};
+ghost use Rattle.word_rules.specs.InRange.{PlaceInView};
 ghost use Rattle.dest.specs.Rows.{rows16};
 ghost use Rattle.effects.specs.Marks.{clearRow16, clearRow32, clearRow, clearRows, flagsIn, firstRow, rowCount, RowsCleared, afterZeroAcc};
-use effects::places::config_place;
 use dest::flags::FLAG_WORD;
 use dest::flags::Flags;
 use dest::flags::flags_of;
@@ -16,16 +15,8 @@ use dest::maps::low_row;
 use dest::maps::storage_row;
 use dest::rows::View16Row;
 use dest::rows::View32Row;
-
-// How many rows a view has.
-fn view_rows(wide: bool) -> u16
-    ensures { λ r. ⌜ r ≡ viewRows wide ⌝ }
-{
-    if wide {
-        return View32Row::ROWS;
-    }
-    View16Row::ROWS
-}
+use effects::places::config_place;
+use word_rules::views::view_rows;
 
 // The first view row that a mode clears.
 fn first_row(mode: u8, wide: bool, place: u16) -> u16

@@ -18,8 +18,8 @@ use machine::refusal::Refusal;
 use records::counts::Counts;
 use records::replay_script::ReplayRead;
 use records::replay_script::ReplayScript;
-use turns::cursor::Cursor;
 use telling::IMAGE_BYTES;
+use turns::cursor::Cursor;
 
 // Runs a machine and tells of it. Internal: the machine is well formed, and there is room.
 fn run_told(

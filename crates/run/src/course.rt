@@ -5,13 +5,13 @@ ghost use Rattle.turns.specs.Streams.{streams};
 ghost use Rattle.run_rules.specs.Ready.{Ready};
 ghost use Rattle.run_rules.specs.Run.{runFrom, summaryOf, summary};
 use crate::Ran;
+use crate::turn::turn;
+use machine::control::Control;
 use turns::cursor::Cursor;
 use turns::ending::Halt;
 use turns::ending::halted;
 use turns::ending::quiet_after;
 use turns::ending::refused_word;
-use crate::turn::turn;
-use machine::control::Control;
 
 // Takes turns until the run ends. Internal: the call was not refused.
 pub fn take_turns(

@@ -7,12 +7,12 @@ ghost use Rattle.machine.specs.Machine.{machine, stores};
 ghost use Rattle.turns.specs.Streams.{streams};
 ghost use Rattle.run_rules.specs.Run.{runOf, summaryOf, summary};
 ghost use Rattle.run_rules.specs.Numbers.{answerNumbers};
-use run_checks::check_call;
 use crate::course::take_turns;
+use machine::control::Control;
+use run_checks::check_call;
 use turns::cursor::Cursor;
 use turns::ending::Ending;
 use turns::ending::Halt;
-use machine::control::Control;
 
 // How a run ended, the turns it took, and the control part and cursor that it leaves. The rest of the machine is written
 // where it is lent.

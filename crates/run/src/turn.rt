@@ -4,13 +4,13 @@ ghost use Rattle.machine.specs.Machine.{machine, stores};
 ghost use Rattle.turns.specs.Streams.{streams};
 ghost use Rattle.run_rules.specs.Turn.{turned, turnOf};
 ghost use Rattle.run_rules.specs.Ready.{Ready};
+use machine::control::Control;
+use machine::refusal::Outcome;
 use turns::cursor::Cursor;
 use turns::cursor::moved;
 use turns::cursor::onward;
 use turns::streams::Offered;
 use turns::streams::next_word;
-use machine::control::Control;
-use machine::refusal::Outcome;
 
 // What came of a turn, and the control part and cursor after it.
 pub struct Turned {

@@ -3,13 +3,13 @@ ghost use mathlib.Core.Path.{_≡_};
 ghost use Rattle.machine.specs.Machine.{machine, stores};
 ghost use Rattle.turns.specs.Streams.{streams};
 ghost use Rattle.run_rules.specs.Checks.{needed, streamsSized, placed, callCheck};
-use turns::cursor::Cursor;
-use turns::ending::Ending;
-use turns::ending::Halt;
 use machine::control::Control;
 use machine::refusal::Refusal;
 use machine::sizes::MOST_TURNS;
 use machine::sizes::STREAM_WORDS;
+use turns::cursor::Cursor;
+use turns::ending::Ending;
+use turns::ending::Halt;
 
 // No stream is over 65,536 words.
 fn streams_sized(s0: &[u32], s1: &[u32], s2: &[u32]) -> bool

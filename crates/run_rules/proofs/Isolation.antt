@@ -8,8 +8,8 @@ use Rattle.machine.specs.declared.refusal.Outcome.{Outcome}
 use Rattle.machine.specs.Machine.{Machine}
 use Rattle.machine.specs.Numbers.{outcomeNumbers}
 use Rattle.machine.specs.Formed.{sized, formed, wellFormed}
-use Rattle.step.specs.Alike.{Agree}
-use Rattle.step.proofs.Alike.{offers-alike}
+use Rattle.step_rules.specs.Alike.{Agree}
+use Rattle.step_rules.proofs.Alike.{offers-alike}
 use Rattle.turns.specs.declared.cursor.Cursor.{Cursor}
 use Rattle.turns.specs.declared.streams.Offered.{Offered}
 use Rattle.turns.specs.declared.streams.Offered.the-variants.{NextWord, NoWord}

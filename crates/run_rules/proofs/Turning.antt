@@ -12,8 +12,8 @@ use Rattle.machine.specs.declared.refusal.Outcome.{Outcome}
 use Rattle.machine.specs.declared.refusal.Outcome.the-variants.{Idle, Passed, Stalled, Refused}
 use Rattle.machine.specs.Machine.{Machine}
 use Rattle.machine.specs.Formed.{sized, formed, controlFormed, wellFormed}
-use Rattle.step.specs.Step.{Step, offerOf}
-use Rattle.step.proofs.Kept.{offer-kept}
+use Rattle.step_rules.specs.Step.{Step, offerOf}
+use Rattle.step_rules.proofs.Kept.{offer-kept}
 use Rattle.turns.specs.declared.cursor.Cursor.{Cursor}
 use Rattle.turns.specs.declared.streams.Offered.{Offered}
 use Rattle.turns.specs.declared.streams.Offered.the-variants.{NextWord, NoWord}

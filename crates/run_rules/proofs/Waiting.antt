@@ -6,9 +6,9 @@ use native.Mathlib.Omega.{arith}
 use Rattle.machine.specs.declared.refusal.Outcome.{Outcome}
 use Rattle.machine.specs.declared.refusal.Outcome.the-variants.{Idle, Passed, Stalled, Refused}
 use Rattle.machine.specs.Machine.{Machine}
-use Rattle.step.specs.Step.{offerOf}
-use Rattle.step.specs.Unchanged.{hasPassed}
-use Rattle.step.proofs.Unchanged.{offer-unchanged}
+use Rattle.step_rules.specs.Step.{offerOf}
+use Rattle.step_rules.specs.Unchanged.{hasPassed}
+use Rattle.step_rules.proofs.Unchanged.{offer-unchanged}
 use Rattle.turns.specs.declared.cursor.Cursor.{Cursor}
 use Rattle.turns.specs.declared.streams.Offered.{Offered}
 use Rattle.turns.specs.declared.streams.Offered.the-variants.{NextWord, NoWord}

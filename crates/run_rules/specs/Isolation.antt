@@ -7,7 +7,7 @@ use lib.ListN.{length}
 use Rattle.machine.specs.Machine.{Machine}
 use Rattle.machine.specs.Numbers.{outcomeNumbers}
 use Rattle.machine.specs.Formed.{wellFormed}
-use Rattle.step.specs.Alike.{Agree}
+use Rattle.step_rules.specs.Alike.{Agree}
 use Rattle.turns.specs.declared.cursor.Cursor.{Cursor}
 use Rattle.turns.specs.Streams.{Streams}
 use Rattle.run_rules.specs.Turn.{Turn}

@@ -2,7 +2,7 @@
 use Rattle.machine.specs.declared.refusal.Outcome.{Outcome}
 use Rattle.machine.specs.declared.refusal.Outcome.the-variants.{Idle}
 use Rattle.machine.specs.Machine.{Machine}
-use Rattle.step.specs.Step.{Step, offerOf}
+use Rattle.step_rules.specs.Step.{Step, offerOf}
 use Rattle.turns.specs.declared.cursor.Cursor.{Cursor}
 use Rattle.turns.specs.declared.streams.Offered.{Offered}
 use Rattle.turns.specs.declared.streams.Offered.the-variants.{NextWord, NoWord}

@@ -16,9 +16,9 @@ use machine::sizes::DEST_ROWS;
 use machine::sizes::GPRS;
 use machine::sizes::SETTINGS;
 use machine::sizes::SOURCE_CELLS;
-use turns::cursor::Cursor;
 use seeded::digest::digest;
 use seeded::whole::fill_machine;
+use turns::cursor::Cursor;
 
 // What a case says beside its streams: the seed, what is lent wrongly, what is set in the machine, the budget, the cursor.
 pub struct Case {

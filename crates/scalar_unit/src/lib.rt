@@ -3,14 +3,14 @@ ghost use mathlib.Core.Path.{_≡_};
 ghost use Prim.Native.Nat.{_*_, _<_};
 ghost use lib.ListN.{length};
 ghost use Rattle.bits.specs.Field.{field};
-ghost use Rattle.words.specs.InRange.{OperandInRange, ScalarInRange};
+ghost use Rattle.word_rules.specs.InRange.{OperandInRange, ScalarInRange};
 ghost use Rattle.effects.specs.Gprs.{operandOf, withHalf, afterSetDmaReg, afterAddDmaReg, afterMulDmaReg, scalarGprs};
 use machine::units::GprNumber;
 use machine::units::HalfRegister;
 use machine::units::gpr_place;
 use machine::units::half_place;
-use words::instruction::Operand;
-use words::instruction::ScalarWord;
+use word_rules::instruction::Operand;
+use word_rules::instruction::ScalarWord;
 
 // A word with one of its halves replaced.
 fn with_half(half: HalfRegister, value: u16, x: u32) -> u32

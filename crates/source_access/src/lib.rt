@@ -8,15 +8,15 @@ ghost use Rattle.answers.specs.Answers.{told, call};
 ghost use Rattle.source_access.specs.Sources.{sources, sourcePlace, sourcesSized, sourcesFormed, rowInRange, sourceCheck, writeSourceRowOf, canShow, shownRow, shownAt};
 ghost use Rattle.source_access.specs.Promises.{SourcePromises};
 use answers::Access;
-use row_cells::put_words;
 use banks::owners::unpackers_own;
 use formed::cells_formed;
-use formed::control_formed;
+use formed_control::control_formed;
 use machine::control::Control;
 use machine::refusal::Refusal;
 use machine::sizes::BANK_ROWS;
 use machine::sizes::ROW_CELLS;
 use machine::sizes::SOURCE_CELLS;
+use row_cells::put_words;
 
 // Where the cells of a row begin in a source store. Internal: both numbers are in range.
 fn source_place(bank: usize, row: usize) -> usize

@@ -11,10 +11,10 @@ use machine::sizes::DEST_ROWS;
 use machine::sizes::GPRS;
 use machine::sizes::SETTINGS;
 use machine::sizes::SOURCE_CELLS;
-use turns::cursor::Cursor;
-use turns::ending::Ending;
 use seeded::digest::digest;
 use std::num::wrapping_add_u32;
+use turns::cursor::Cursor;
+use turns::ending::Ending;
 
 // How the last run ended, the turns of all, and the control part after them.
 struct Done {

@@ -5,17 +5,15 @@ ghost use Prim.Native.Nat.{_<_};
 ghost use Rattle.machine.specs.Machine.{machine, stores};
 ghost use Rattle.machine.specs.Numbers.{outcomeNumbers};
 ghost use Rattle.machine.specs.Formed.{sized, formed, controlFormed};
-ghost use Rattle.words.specs.InRange.{InRange};
-ghost use Rattle.step.specs.Step.{stepped, passOf, gatedOf, offerOf, checkOf, stepOf};
-ghost use Rattle.step.specs.Alike.{OffersAlike};
-ghost use Rattle.step.specs.Kept.{KeepsFormed};
-ghost use Rattle.step.specs.Unchanged.{Unchanged};
+ghost use Rattle.word_rules.specs.InRange.{InRange};
+ghost use Rattle.step_rules.specs.Step.{stepped, passOf, gatedOf, offerOf, checkOf, stepOf};
 use gate::Gate;
 use machine::control::Control;
 use machine::refusal::Outcome;
 use machine::refusal::Refusal;
-use words::instruction::Decoded;
-use words::instruction::Instruction;
+use step_rules::CallCheck;
+use word_rules::instruction::Decoded;
+use word_rules::instruction::Instruction;
 
 // What came of a word, and the control part after it. The stores are written where they are lent.
 pub struct Stepped {
@@ -113,7 +111,7 @@ pub fn offer(
     requires { ⌜ (sized (machine control (now settings) (stores (now gprs) (now config) (now dest) (now marks) (now «src_a») (now «src_b»))) ≡ true) × (controlFormed control ≡ true) × (t < 3) ⌝ }
     ensures { λ r. ⌜ stepped (r .outcome) (machine (r .control) (now (settings .exit)) (stores (now (gprs .exit)) (now (config .exit)) (now (dest .entry)) (now (marks .exit)) (now («src_a» .exit)) (now («src_b» .exit)))) ≡ offerOf (machine control (now (settings .entry)) (stores (now (gprs .entry)) (now (config .entry)) (now (dest .entry)) (now (marks .entry)) (now («src_a» .entry)) (now («src_b» .entry)))) t word ⌝ }
 {
-    let d = words::decode::decode(word);
+    let d = words::decode(word);
     match d {
         Decoded::Rejects(r) => Stepped {
             outcome: Outcome::Refused(r),
@@ -132,12 +130,6 @@ pub fn offer(
             i,
         ),
     }
-}
-
-// What the checks of a call find.
-pub enum CallCheck {
-    Fine,
-    Refuses(Refusal),
 }
 
 // Refusals 4, 10 and 1.
@@ -214,11 +206,3 @@ pub fn step(
         ),
     }
 }
-
-// The laws of a word that are no single function's: it keeps a well-formed machine well formed, changes nothing unless it
-// passes, and goes alike on machines that agree on control part and thread settings.
-pub fn promises()
-    ensures kept { λ _. ⌜ KeepsFormed ⌝ }
-    ensures unchanged { λ _. ⌜ Unchanged ⌝ }
-    ensures alike { λ _. ⌜ OffersAlike ⌝ }
-{}

@@ -4,13 +4,13 @@ ghost use mathlib.Core.List.{List};
 ghost use Prim.Native.Nat.{ℕ, _<_};
 ghost use lib.ListN.{length};
 ghost use Rattle.machine.specs.Machine.{stores};
-ghost use Rattle.words.specs.InRange.{InRange};
+ghost use Rattle.word_rules.specs.InRange.{InRange};
 ghost use Rattle.effects.specs.After.{settingsAfter, storesAfter};
 use config_unit::config_word;
-use scalar_unit::scalar_word;
-use matrix_unit::matrix_word;
 use config_unit::settings::bank_of;
-use words::instruction::Instruction;
+use matrix_unit::matrix_word;
+use scalar_unit::scalar_word;
+use word_rules::instruction::Instruction;
 
 // The lent parts after a passed word of thread t, with the banks at the matrix pointers. Dest is not lent, since no word writes
 // a Dest cell: the second promise holds with any list of them. Internal: the parts have their sizes, and the numbers are in range.

@@ -1,9 +1,9 @@
 use Rattle.run_rules.proofs.Stuck.{stuck-for-good}
 use Rattle.run_rules.proofs.Isolation.{isolated}
 use Rattle.run_rules.proofs.Kept.{run-keeps}
-use Rattle.step.proofs.Kept.{keeps-formed}
-use Rattle.step.proofs.Unchanged.{unchanged}
-use Rattle.dest.proofs.Cover.{views-cover}
+use Rattle.step_rules.proofs.Kept.{keeps-formed}
+use Rattle.step_rules.proofs.Unchanged.{unchanged}
+use Rattle.dest_cover.proofs.Cover.{views-cover}
 use Rattle.image.proofs.Trips.{image-facts, round-trips}
 use Rattle.dest_access.proofs.DestBack.{dest-promises}
 use Rattle.gpr_access.proofs.GprBack.{gpr-promises}

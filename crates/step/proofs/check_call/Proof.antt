@@ -1,4 +1,4 @@
-use Rattle.step.proofs.Ways.{check-sizes, check-ranges, check-fine, check-thread}
+use Rattle.step_rules.proofs.Ways.{check-sizes, check-ranges, check-fine, check-thread}
 use borrow.Author.Needs.{needs}
 use Rattle.step.proofs.check_call.Statement.{statement}
 use Rattle.step.proofs.check_call.Tie as tie

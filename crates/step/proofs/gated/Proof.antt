@@ -1,4 +1,4 @@
-use Rattle.step.proofs.Ways.{stalls, gate-open}
+use Rattle.step_rules.proofs.Ways.{stalls, gate-open}
 use borrow.Author.Needs.{needs}
 use Rattle.step.proofs.gated.Statement.{statement}
 use Rattle.step.proofs.gated.Tie as tie

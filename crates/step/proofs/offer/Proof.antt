@@ -1,4 +1,4 @@
-use Rattle.step.proofs.Ways.{word-refused, word-decoded, decoded-range}
+use Rattle.step_rules.proofs.Ways.{word-refused, word-decoded, decoded-range}
 use borrow.Author.Needs.{needs}
 use Rattle.step.proofs.offer.Statement.{statement}
 use Rattle.step.proofs.offer.Tie as tie

@@ -1,4 +1,4 @@
-use Rattle.step.proofs.Ways.{passes}
+use Rattle.step_rules.proofs.Ways.{passes}
 use Rattle.machine.specs.Machine.{machine, stores}
 use Rattle.machine.proofs.SizedFacts.{sized-facts}
 use Rattle.machine.proofs.ControlFacts.{pointer-at}

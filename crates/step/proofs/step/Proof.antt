@@ -1,5 +1,5 @@
 use mathlib.Core.Path.{sym, _∙_}
-use Rattle.step.proofs.Ways.{call-refused, call-offered, fine-shows, numbered}
+use Rattle.step_rules.proofs.Ways.{call-refused, call-offered, fine-shows, numbered}
 use borrow.Author.Needs.{needs}
 use Rattle.step.proofs.step.Statement.{statement}
 use Rattle.step.proofs.step.Tie as tie

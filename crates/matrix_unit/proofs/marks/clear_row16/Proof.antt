@@ -1,6 +1,6 @@
 use native.Mathlib.Omega.{arith}
 use borrow.Author.Needs.{needs}
-use Rattle.dest.proofs.Apart.{storage16-lt}
+use Rattle.dest_cover.proofs.Apart.{storage16-lt}
 use Rattle.matrix_unit.proofs.marks.clear_row16.Statement.{statement}
 use Rattle.matrix_unit.proofs.marks.clear_row16.Tie as tie
 

@@ -3,7 +3,7 @@ use native.Mathlib.Nat.{mul-le-mul}
 use native.Mathlib.Omega.{arith}
 use borrow.Author.Tests.{ne-eqb}
 use borrow.Author.Needs.{needs}
-use Rattle.words.specs.MatrixWords.{viewRows}
+use Rattle.word_rules.specs.MatrixWords.{viewRows}
 use Rattle.effects.proofs.MarkLaws.{view-at-most}
 use Rattle.matrix_unit.proofs.marks.first_row.Statement.{statement}
 use Rattle.matrix_unit.proofs.marks.first_row.Tie as tie

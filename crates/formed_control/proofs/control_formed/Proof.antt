@@ -1,0 +1,24 @@
+use Rattle.machine.specs.Formed.{controlFormed}
+use mathlib.Core.Path.{_≡_}
+use lib.ListN.{length}
+use borrow.Author.Tests.{eq-eqb}
+use borrow.Author.Needs.{needs}
+use Rattle.formed_control.proofs.control_formed.Statement.{statement}
+use Rattle.formed_control.proofs.control_formed.Tie as tie
+
+returns : tie.Need-returns
+unfolding controlFormed
+returns c = rw (eq-eqb _ _ (c .before .before .before .before .before .semaphores-formed .ensures .1)) (cc)
+
+pub control-formed-spec : {M : Type 1} → statement M
+control-formed-spec =
+    tie.close
+    (tie.spec
+    (λ c κs. search needs)
+    (λ c κs. search needs)
+    (λ c κs. search needs)
+    (λ c κs. search needs)
+    (λ c κs. search needs)
+    (λ c κs. search needs)
+    (λ c κs. search needs)
+    returns)

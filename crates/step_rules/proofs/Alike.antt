@@ -1,0 +1,44 @@
+-- One word on two machines that agree goes alike: deciding is given no store.
+use Prim.Native.Nat.{ℕ}
+use mathlib.Core.Path.{_≡_, refl, ap, subst}
+use mathlib.Core.List.{List}
+use Rattle.machine.specs.declared.control.Control.{Control}
+use Rattle.machine.specs.Machine.{Machine, Stores, machine}
+use Rattle.word_rules.specs.declared.instruction.Instruction.{Instruction}
+use Rattle.word_rules.specs.declared.instruction.Decoded.{Decoded}
+use Rattle.word_rules.specs.declared.instruction.Decoded.the-variants.{Decodes, Rejects}
+use Rattle.word_rules.specs.Decode.{decodeOf}
+use Rattle.gate.specs.declared.Gate.{Gate}
+use Rattle.gate.specs.declared.Gate.the-variants.{Open, Closed}
+use Rattle.gate.specs.Gate.{gateOf}
+use Rattle.control.specs.After.{controlAfter}
+use Rattle.effects.specs.After.{settingsAfter}
+use Rattle.step_rules.specs.Step.{Step, machineAfter, byGate, gatedOf, byDecoded, offerOf}
+use Rattle.step_rules.specs.Alike.{Agree, StepsAlike, OffersAlike}
+
+gates-alike : (m n : Machine) (t : ℕ) (i : Instruction) (g : Gate) → Agree m n → StepsAlike (byGate m t i g) (byGate n t i g)
+unfolding machineAfter
+gates-alike m n t i Open a =
+    record {
+      outcome = refl;
+      agree = record {
+        control = ap (λ (c : Control). controlAfter c t i) (a .control);
+        settings = ap (λ (s : List ℕ). settingsAfter i t s) (a .settings);
+      };
+    }
+gates-alike m n t i (Closed k) a = record { outcome = refl; agree = a }
+
+gated-alike : (m n : Machine) (t : ℕ) (i : Instruction) → Agree m n → StepsAlike (gatedOf m t i) (gatedOf n t i)
+unfolding gatedOf
+gated-alike m n t i a =
+    subst (λ (g : Gate). StepsAlike (byGate m t i (gateOf (m .control) t i)) (byGate n t i g))
+    (ap (λ (c : Control). gateOf c t i) (a .control))
+    (gates-alike m n t i (gateOf (m .control) t i) a)
+
+decoded-alike : (m n : Machine) (t : ℕ) (d : Decoded) → Agree m n → StepsAlike (byDecoded m t d) (byDecoded n t d)
+decoded-alike m n t (Decodes i) a = gated-alike m n t i a
+decoded-alike m n t (Rejects r) a = record { outcome = refl; agree = a }
+
+pub offers-alike : OffersAlike
+unfolding offerOf
+offers-alike m n t w a = decoded-alike m n t (decodeOf w) a

@@ -1,0 +1,69 @@
+-- A word keeps a well-formed machine well formed.
+use Prim.Native.Nat.{ℕ, _<_}
+use mathlib.Core.Path.{_≡_, refl, sym, ap, _∙_, subst}
+use mathlib.Core.Bool.{Bool, true, _&&_}
+use mathlib.Core.List.{List}
+use lib.Dec.{eqb}
+use lib.ListN.{length}
+use Rattle.bits.specs.Ranges.{allAtMost}
+use Rattle.bits.proofs.Choices.{and-left, and-right, and-intro}
+use Rattle.machine.specs.Sizes.{settingCount, halfMost}
+use Rattle.machine.specs.Machine.{Machine, Stores, machine}
+use Rattle.machine.specs.Formed.{sized, formed, wellFormed, controlFormed, storesSized, storesFormed}
+use Rattle.word_rules.specs.declared.instruction.Instruction.{Instruction}
+use Rattle.word_rules.specs.declared.instruction.Decoded.{Decoded}
+use Rattle.word_rules.specs.declared.instruction.Decoded.the-variants.{Decodes, Rejects}
+use Rattle.word_rules.specs.Decode.{decodeOf}
+use Rattle.word_rules.specs.InRange.{InRange, DecodedInRange}
+use Rattle.word_rules.proofs.InRange.{decode-in-range}
+use Rattle.gate.specs.declared.Gate.{Gate}
+use Rattle.gate.specs.declared.Gate.the-variants.{Open, Closed}
+use Rattle.banks.specs.Owners.{matrixBank}
+use Rattle.gate.specs.Gate.{gateOf}
+use Rattle.control.proofs.Keeps.{control-after-formed}
+use Rattle.effects.specs.After.{settingsAfter, storesAfter}
+use Rattle.effects.proofs.Keeps.{settings-long, settings-range, stores-sized, stores-formed}
+use Rattle.step_rules.specs.declared.CallCheck.{CallCheck}
+use Rattle.step_rules.specs.declared.CallCheck.the-variants.{Fine, Refuses}
+use Rattle.step_rules.specs.Step.{machineAfter, byGate, gatedOf, byDecoded, offerOf, checkOf, byCheck, stepOf}
+use Rattle.step_rules.specs.Kept.{KeepsFormed}
+use Rattle.step_rules.proofs.Ways.{fine-shows}
+
+passed-kept : (m : Machine) (t : ℕ) (i : Instruction) → t < 3 → InRange i → wellFormed m ≡ true → wellFormed (machineAfter m t i) ≡ true
+unfolding machineAfter
+passed-kept m t i h r e =
+    let a = matrixBank (m .control) 0 in
+    let b = matrixBank (m .control) 1 in
+    let s = sized m in
+    let hs = and-left (sized m) (formed m) e in
+    let hf = and-right (sized m) (formed m) e in
+    let ls = and-left (eqb (length (m .settings)) settingCount) (storesSized (m .kept)) hs in
+    let ks = and-right (eqb (length (m .settings)) settingCount) (storesSized (m .kept)) hs in
+    let rest = allAtMost halfMost (m .settings) && storesFormed (m .kept) in
+    let hc = and-left (controlFormed (m .control)) rest hf in
+    let hr = and-right (controlFormed (m .control)) rest hf in
+    let rs = and-left (allAtMost halfMost (m .settings)) (storesFormed (m .kept)) hr in
+    let ks' = and-right (allAtMost halfMost (m .settings)) (storesFormed (m .kept)) hr in
+    let long : eqb (length (settingsAfter i t (m .settings))) settingCount ≡ true = rw (settings-long i t (m .settings)) ls in
+    rw (long, stores-sized i t a b (m .settings) (m .kept) ks, control-after-formed (m .control) t i h r hc, settings-range i t (m .settings) r rs, stores-formed i t a b (m .settings) (m .kept) r ks')
+
+gate-kept : (m : Machine) (t : ℕ) (i : Instruction) (g : Gate) → t < 3 → InRange i → wellFormed m ≡ true → wellFormed (byGate m t i g .after) ≡ true
+gate-kept m t i Open h r e = passed-kept m t i h r e
+gate-kept m t i (Closed k) h r e = e
+
+decoded-kept : (m : Machine) (t : ℕ) (d : Decoded) → t < 3 → DecodedInRange d → wellFormed m ≡ true → wellFormed (byDecoded m t d .after) ≡ true
+unfolding gatedOf
+decoded-kept m t (Decodes i) h r e = gate-kept m t i (gateOf (m .control) t i) h r e
+decoded-kept m t (Rejects x) h r e = e
+
+pub offer-kept : (m : Machine) (t w : ℕ) → t < 3 → wellFormed m ≡ true → wellFormed (offerOf m t w .after) ≡ true
+unfolding offerOf
+offer-kept m t w h e = decoded-kept m t (decodeOf w) h (decode-in-range w) e
+
+check-kept : (m : Machine) (t w : ℕ) (k : CallCheck) → checkOf m t ≡ k → wellFormed m ≡ true → wellFormed (byCheck m t w k .after) ≡ true
+check-kept m t w Fine x e = offer-kept m t w (fine-shows m t x .thread) e
+check-kept m t w (Refuses r) x e = e
+
+pub keeps-formed : KeepsFormed
+unfolding stepOf
+keeps-formed = record { offered = offer-kept; called = λ m t w e. check-kept m t w (checkOf m t) refl e }

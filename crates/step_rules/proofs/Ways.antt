@@ -1,0 +1,121 @@
+-- The ways that a word can go, as equations of the definitions, for the code that takes them.
+use Prim.Native.Nat.{ℕ, _<_, _≤_}
+use mathlib.Core.Path.{_≡_, refl, sym, ap, _∙_, subst}
+use mathlib.Core.Bool.{Bool, true, false, cond, not}
+use mathlib.Core.List.{List}
+use native.Mathlib.Omega.{arith}
+use lib.Dec.{ltb}
+use borrow.Author.Tests.{ltb-true, lt-ltb, le-ltb, not-true, not-false}
+use Rattle.bits.proofs.Choices.{and-left}
+use Rattle.machine.specs.declared.control.Control.{Control}
+use Rattle.machine.specs.declared.refusal.StallCause.{StallCause}
+use Rattle.machine.specs.declared.refusal.Outcome.the-variants.{Passed, Stalled, Refused}
+use Rattle.machine.specs.declared.refusal.Refusal.{Refusal}
+use Rattle.machine.specs.declared.refusal.Refusal.the-variants.{BadThread, BadLength, Malformed}
+use Rattle.machine.specs.Machine.{Machine, Stores, machine}
+use Rattle.machine.specs.Formed.{sized, formed, controlFormed}
+use Rattle.machine.specs.Numbers.{outcomeNumbers}
+use Rattle.word_rules.specs.declared.instruction.Instruction.{Instruction}
+use Rattle.word_rules.specs.declared.instruction.Decoded.{Decoded}
+use Rattle.word_rules.specs.declared.instruction.Decoded.the-variants.{Decodes, Rejects}
+use Rattle.word_rules.specs.Decode.{decodeOf}
+use Rattle.word_rules.specs.InRange.{InRange, DecodedInRange}
+use Rattle.word_rules.proofs.InRange.{decode-in-range}
+use Rattle.gate.specs.declared.Gate.{Gate}
+use Rattle.gate.specs.declared.Gate.the-variants.{Open, Closed}
+use Rattle.banks.specs.Owners.{matrixBank}
+use Rattle.gate.specs.Gate.{gateOf}
+use Rattle.control.specs.After.{controlAfter}
+use Rattle.effects.specs.After.{settingsAfter, storesAfter}
+use Rattle.step_rules.specs.declared.CallCheck.{CallCheck}
+use Rattle.step_rules.specs.declared.CallCheck.the-variants.{Fine, Refuses}
+use Rattle.step_rules.specs.Step.{Step, stepped, refused, machineAfter, passOf, byGate, gatedOf, byDecoded, offerOf, checkOf, byCheck, stepOf}
+
+pub passes : (m : Machine) (t : ℕ) (i : Instruction) (c : Control) (s : List ℕ) (k : Stores) → c ≡ controlAfter (m .control) t i →
+    s ≡ settingsAfter i t (m .settings) → k ≡ storesAfter i t (matrixBank (m .control) 0) (matrixBank (m .control) 1) (m .settings) (m .kept) →
+    stepped Passed (machine c s k) ≡ passOf m t i
+unfolding machineAfter
+passes m t i c s k p q r = rw (p, q, r)
+
+module _ (m : Machine) (t : ℕ) (i : Instruction) (g : Gate) (e : g ≡ gateOf (m .control) t i) where
+  by-gate : gatedOf m t i ≡ byGate m t i g
+  unfolding gatedOf
+  by-gate = ap (λ (x : Gate). byGate m t i x) (sym e)
+
+  pub stalls : (k : StallCause) → g ≡ Closed k → stepped (Stalled k) m ≡ gatedOf m t i
+  stalls k h = sym (by-gate ∙ ap (λ (x : Gate). byGate m t i x) h)
+
+  pub gate-open : (s : Step) → g ≡ Open → s ≡ passOf m t i → s ≡ gatedOf m t i
+  gate-open s h p = p ∙ sym (by-gate ∙ ap (λ (x : Gate). byGate m t i x) h)
+
+module _ (m : Machine) (t w : ℕ) (d : Decoded) (e : d ≡ decodeOf w) where
+  by-decoded : offerOf m t w ≡ byDecoded m t d
+  unfolding offerOf
+  by-decoded = ap (λ (x : Decoded). byDecoded m t x) (sym e)
+
+  pub word-refused : (r : Refusal) → d ≡ Rejects r → stepped (Refused r) m ≡ offerOf m t w
+  word-refused r h = sym (by-decoded ∙ ap (λ (x : Decoded). byDecoded m t x) h)
+
+  pub word-decoded : (i : Instruction) (s : Step) → d ≡ Decodes i → s ≡ gatedOf m t i → s ≡ offerOf m t w
+  word-decoded i s h p = p ∙ sym (by-decoded ∙ ap (λ (x : Decoded). byDecoded m t x) h)
+
+pub decoded-range : (w : ℕ) (d : Decoded) (i : Instruction) → d ≡ decodeOf w → d ≡ Decodes i → InRange i
+decoded-range w d i e h = subst (λ (x : Decoded). DecodedInRange x) (sym e ∙ h) (decode-in-range w)
+
+module _ (m : Machine) (t : ℕ) (k : CallCheck) (e : k ≡ checkOf m t) where
+  by-check : (w : ℕ) → stepOf m t w ≡ byCheck m t w k
+  unfolding stepOf
+  by-check w = ap (λ (x : CallCheck). byCheck m t w x) (sym e)
+
+  pub call-refused : (w : ℕ) (r : Refusal) → k ≡ Refuses r → stepped (Refused r) m ≡ stepOf m t w
+  call-refused w r h = sym (by-check w ∙ ap (λ (x : CallCheck). byCheck m t w x) h)
+
+  pub call-offered : (w : ℕ) (s : Step) → k ≡ Fine → s ≡ offerOf m t w → s ≡ stepOf m t w
+  call-offered w s h p = p ∙ sym (by-check w ∙ ap (λ (x : CallCheck). byCheck m t w x) h)
+
+-- what a call that is not refused has shown
+pub record Shown (m : Machine) (t : ℕ) : Type 0 where
+  pub sizes : sized m ≡ true
+  pub ranges : formed m ≡ true
+  pub control : controlFormed (m .control) ≡ true
+  pub thread : t < 3
+
+pub fine-shows : (m : Machine) (t : ℕ) → checkOf m t ≡ Fine → Shown m t
+unfolding checkOf
+fine-shows m t e = go (sized m) (formed m) (ltb t 3) refl refl refl e
+  where
+    go : (a b c : Bool) → sized m ≡ a → formed m ≡ b → ltb t 3 ≡ c →
+        cond a (cond b (cond c Fine (Refuses BadThread)) (Refuses Malformed)) (Refuses BadLength) ≡ Fine → Shown m t
+    go true true true x y z h = record { sizes = x; ranges = y; control = and-left (controlFormed (m .control)) _ y; thread = ltb-true t 3 z }
+    go true true false x y z h = let n : _≡_ {A = ℕ} 0 1 = cc in absurd (omega arith)
+    go true false c x y z h = let n : _≡_ {A = ℕ} 0 1 = cc in absurd (omega arith)
+    go false b c x y z h = let n : _≡_ {A = ℕ} 0 1 = cc in absurd (omega arith)
+
+-- the checks, where their results go by names
+module _ (m : Machine) (t : ℕ) (a b : Bool) (ea : a ≡ sized m) (eb : b ≡ formed m) where
+  byTests : Bool → Bool → Bool → CallCheck
+  byTests x y z = cond x (cond y (cond z Fine (Refuses BadThread)) (Refuses Malformed)) (Refuses BadLength)
+
+  by-tests : (x y z : Bool) → a ≡ x → b ≡ y → ltb t 3 ≡ z → byTests x y z ≡ checkOf m t
+  unfolding checkOf byTests
+  by-tests x y z p q r = rw (← ea, ← eb, p, q, r)
+
+  pub check-sizes : not a ≡ true → Refuses BadLength ≡ checkOf m t
+  unfolding byTests
+  check-sizes h = by-tests false b (ltb t 3) (not-true a h) refl refl
+
+  pub check-ranges : not a ≡ false → not b ≡ true → Refuses Malformed ≡ checkOf m t
+  unfolding byTests
+  check-ranges h k = by-tests true false (ltb t 3) (not-false a h) (not-true b k) refl
+
+  pub check-fine : not a ≡ false → not b ≡ false → t < 3 → Fine ≡ checkOf m t
+  unfolding byTests
+  check-fine h k l = by-tests true true true (not-false a h) (not-false b k) (lt-ltb t 3 l)
+
+  pub check-thread : not a ≡ false → not b ≡ false → 3 ≤ t → Refuses BadThread ≡ checkOf m t
+  unfolding byTests
+  check-thread h k l = by-tests true true false (not-false a h) (not-false b k) (le-ltb t 3 l)
+
+-- equal steps have equal numbers
+pub numbered : (x y : Step) → x ≡ y → (x ≡ y) × (outcomeNumbers (x .outcome) ≡ outcomeNumbers (y .outcome))
+numbered x y e = (e, ap (λ (z : Step). outcomeNumbers (z .outcome)) e)

@@ -1,0 +1,92 @@
+-- Words decoded by computation: document 01's cases, and what is easy to get wrong.
+use mathlib.Core.Path.{_≡_, refl}
+use mathlib.Core.Bool.{true, false}
+use Rattle.machine.specs.declared.refusal.Refusal.the-variants.{BadWord, BadField}
+use Rattle.word_rules.specs.declared.instruction.Operand.the-variants.{Constant, Register}
+use Rattle.word_rules.specs.declared.instruction.ScalarWord.the-variants.{SetDmaReg, AddDmaReg, MulDmaReg}
+use Rattle.word_rules.specs.declared.instruction.ConfigWord.the-variants.{WrCfg, RdCfg, RmwCib}
+use Rattle.word_rules.specs.declared.instruction.MatrixWord.the-variants.{ZeroAcc}
+use Rattle.word_rules.specs.declared.instruction.Instruction.the-variants.{Scalar, Config, Matrix}
+use Rattle.word_rules.specs.declared.instruction.Decoded.the-variants.{Decodes, Rejects}
+use Rattle.machine.specs.Units.{gpr, halfRegister}
+use Rattle.word_rules.specs.Decode.{decodeOf}
+
+-- M1
+pub low-half-of-four : decodeOf 0x45123408 ≡ Decodes (Scalar (SetDmaReg (halfRegister 8) 0x1234))
+unfolding decodeOf
+low-half-of-four = refl
+
+-- the value has 16 bits, not 14
+top-bits-kept : decodeOf 0x45C00008 ≡ Decodes (Scalar (SetDmaReg (halfRegister 8) 0xC000))
+unfolding decodeOf
+top-bits-kept = refl
+
+signal-mode : decodeOf 0x45123488 ≡ Rejects BadWord
+unfolding decodeOf
+signal-mode = refl
+
+-- M2
+pub add-constant : decodeOf 0x58805044 ≡ Decodes (Scalar (AddDmaReg (gpr 5) (gpr 4) (Constant 1)))
+unfolding decodeOf
+add-constant = refl
+
+-- M3
+pub multiply-registers : decodeOf 0x5A006144 ≡ Decodes (Scalar (MulDmaReg (gpr 6) (gpr 4) (Register (gpr 5))))
+unfolding decodeOf
+multiply-registers = refl
+
+-- M4
+pub second-byte : decodeOf 0xB4F0AB0A ≡ Decodes (Config (RmwCib 1 0xF0 0xAB 0x0A))
+unfolding decodeOf
+second-byte = refl
+
+-- M5
+pub last-index : decodeOf 0xB00000FF ≡ Decodes (Config (WrCfg (gpr 0) false 255))
+unfolding decodeOf
+last-index = refl
+
+pub past-last-index : decodeOf 0xB0000100 ≡ Rejects BadField
+unfolding decodeOf
+past-last-index = refl
+
+-- M6
+pub four-words : decodeOf 0xB0078009 ≡ Decodes (Config (WrCfg (gpr 7) true 9))
+unfolding decodeOf
+four-words = refl
+
+-- RDCFG's GPR field has 8 bits
+last-gpr : decodeOf 0xB13F0000 ≡ Decodes (Config (RdCfg (gpr 63) 0))
+unfolding decodeOf
+last-gpr = refl
+
+past-last-gpr : decodeOf 0xB1400000 ≡ Rejects BadField
+unfolding decodeOf
+past-last-gpr = refl
+
+-- a mutex field has 16 bits
+past-last-mutex : decodeOf 0xA0008000 ≡ Rejects BadField
+unfolding decodeOf
+past-last-mutex = refl
+
+-- each view has its own limit: row 512 is there in the 16-bit view alone
+row-of-wide-view : decodeOf 0x10040200 ≡ Rejects BadField
+unfolding decodeOf
+row-of-wide-view = refl
+
+row-of-narrow-view : decodeOf 0x10000200 ≡ Decodes (Matrix (ZeroAcc 0 false 512))
+unfolding decodeOf
+row-of-narrow-view = refl
+
+-- mode 3 ignores the place
+all-rows : decodeOf 0x10183FFF ≡ Decodes (Matrix (ZeroAcc 3 false 0x3FFF))
+unfolding decodeOf
+all-rows = refl
+
+-- 2 goes before 3: AddrMod 1 and a place past its view
+word-before-field : decodeOf 0x10007FFF ≡ Rejects BadWord
+unfolding decodeOf
+word-before-field = refl
+
+no-opcode : decodeOf 0xFF000000 ≡ Rejects BadWord
+unfolding decodeOf
+no-opcode = refl

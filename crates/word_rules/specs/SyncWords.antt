@@ -1,0 +1,51 @@
+-- The words of the sync unit: a row of document 01's table, a definition. Bits not named are ignored.
+use Prim.Native.Nat.{ℕ}
+use mathlib.Core.Bool.{false}
+use lib.Dec.{ltb}
+use Rattle.bits.specs.Field.{field}
+use Rattle.word_rules.specs.declared.instruction.SyncWord.{SyncWord}
+use Rattle.word_rules.specs.declared.instruction.SyncWord.the-variants.{AtGetM, AtRelM, StallWait, SemInit, SemPost, SemGet, SemWait}
+use Rattle.word_rules.specs.declared.instruction.Instruction.the-variants.{Sync}
+use Rattle.word_rules.specs.declared.instruction.Decoded.{Decoded}
+use Rattle.word_rules.specs.declared.instruction.Decoded.the-variants.{Decodes}
+use Rattle.word_rules.specs.Refused.{decodesUnless}
+
+-- mutex 0–15; over 7 is 3
+abbrev pub mutexWordOf : (ℕ → SyncWord) → ℕ → Decoded
+mutexWordOf act w = decodesUnless false (ltb 7 (field 0 16 w)) (Sync (act (field 0 16 w)))
+
+-- ATGETM: mutex 0–15
+abbrev pub atGetMOf : ℕ → Decoded
+atGetMOf w = mutexWordOf AtGetM w
+
+-- ATRELM: mutex 0–15
+abbrev pub atRelMOf : ℕ → Decoded
+atRelMOf w = mutexWordOf AtRelM w
+
+-- block 15–23
+abbrev pub blockOf : ℕ → ℕ
+blockOf w = field 15 9 w
+
+-- mask 2–9
+abbrev pub maskOf : ℕ → ℕ
+maskOf w = field 2 8 w
+
+-- STALLWAIT: block 15–23, conditions 0–14
+abbrev pub stallWaitOf : ℕ → Decoded
+stallWaitOf w = Decodes (Sync (StallWait (blockOf w) (field 0 15 w)))
+
+-- SEMINIT: maximum 20–23, value 16–19, mask 2–9
+abbrev pub semInitOf : ℕ → Decoded
+semInitOf w = Decodes (Sync (SemInit (field 20 4 w) (field 16 4 w) (maskOf w)))
+
+-- SEMPOST: mask 2–9
+abbrev pub semPostOf : ℕ → Decoded
+semPostOf w = Decodes (Sync (SemPost (maskOf w)))
+
+-- SEMGET: mask 2–9
+abbrev pub semGetOf : ℕ → Decoded
+semGetOf w = Decodes (Sync (SemGet (maskOf w)))
+
+-- SEMWAIT: block 15–23, mask 2–9, condition 0–1
+abbrev pub semWaitOf : ℕ → Decoded
+semWaitOf w = Decodes (Sync (SemWait (blockOf w) (maskOf w) (field 0 2 w)))
