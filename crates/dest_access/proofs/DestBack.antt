@@ -14,14 +14,15 @@ use Rattle.dest.specs.declared.rows.StorageRow.{StorageRow}
 use Rattle.machine.specs.Sizes.{rowCells, wordMost}
 use Rattle.answers.specs.Answers.{accepted}
 use Rattle.row_cells.specs.Cells.{highHalves, lowHalves, wideCells}
-use Rattle.dest_access.specs.DestRows.{DestStore, storedRow, withStoredRow, flagsIn, row16At, rows32At, readRow16Of, writeRow16Of, readRow32Of, writeRow32Of}
+use Rattle.effects.specs.Marks.{flagsIn}
+use Rattle.dest_access.specs.DestRows.{DestStore, storedRow, withStoredRow, row16At, rows32At, readRow16Of, writeRow16Of, readRow32Of, writeRow32Of}
 use Rattle.dest_access.specs.Promises.{DestPromises}
 use Rattle.dest_access.proofs.StoredRows.{Sized, stored-sized, stored-same, stored-other, halves-back}
 use Rattle.dest_access.proofs.ViewBack.{writeCheck, WriteFacts, write-facts, read-back, others-left}
 
 module _ (config : List ℕ) (s : DestStore) (bank row : ℕ) (cells : List ℕ) where
   abbrev flags : Flags
-  flags = flagsIn config bank
+  flags = flagsIn bank config
 
   -- the 16-bit view
   abbrev seen16 : DestStore → ℕ → List ℕ

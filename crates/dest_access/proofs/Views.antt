@@ -18,7 +18,8 @@ use Rattle.dest.specs.declared.rows.Row32.the-variants.{Past32}
 use Rattle.dest.specs.declared.rows.StorageRow.{StorageRow}
 use Rattle.machine.specs.Sizes.{rowCells, destCount, markCount}
 use Rattle.answers.specs.Answers.{Told, accepted, refused, provided, call, checked}
-use Rattle.dest_access.specs.DestRows.{DestStore, HalfRows, flagsIn, row16At, rows32At, bankCheck, destCheck, rowCheck, outputCheck, cellsCheck}
+use Rattle.effects.specs.Marks.{flagsIn}
+use Rattle.dest_access.specs.DestRows.{DestStore, HalfRows, row16At, rows32At, bankCheck, destCheck, rowCheck, outputCheck, cellsCheck}
 use Rattle.answers.proofs.Checks.{whole-denied, whole-found, checked-denied, checked-found}
 use Rattle.dest_access.proofs.Facts.{bank-before, dest-before, DestFacts, dest-facts}
 
@@ -105,7 +106,7 @@ found16 config s bank row q h =
       dest-long = f .dest-long;
       marks-long = f .marks-long;
       same = e;
-      within = rw e (storage16-lt (flagsIn config bank) (view16 row) (f .row-in));
+      within = rw e (storage16-lt (flagsIn bank config) (view16 row) (f .row-in));
     }
 
 -- where the halves of a found row of the 32-bit view lie
@@ -130,6 +131,6 @@ found32 config s bank row high low h =
       marks-long = f .marks-long;
       high-same = i;
       low-same = j;
-      high-within = rw i (omega (arith, high32-lt (flagsIn config bank) (view32 row)));
-      low-within = rw j (low32-lt (flagsIn config bank) (view32 row));
+      high-within = rw i (omega (arith, high32-lt (flagsIn bank config) (view32 row)));
+      low-within = rw j (low32-lt (flagsIn bank config) (view32 row));
     }

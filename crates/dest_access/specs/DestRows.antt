@@ -1,16 +1,15 @@
 -- Bench access to whole Dest rows, in either view.
-use Prim.Native.Nat.{ℕ, _+_, _*_}
+use Prim.Native.Nat.{ℕ, _*_}
 use mathlib.Core.Bool.{Bool, true, false, cond, _&&_}
 use mathlib.Core.List.{List}
 use lib.Dec.{eqb, leb, ltb}
 use lib.ListN.{length, getD, set, take, drop, replicate}
 use Rattle.bits.specs.Overwrite.{over}
-use Rattle.dest.specs.Flags.{flagWord, flagsOf}
 use Rattle.dest.specs.Maps.{storage16, high32, low32}
 use Rattle.dest.specs.Rows.{rows16, rows32, view16, view32}
-use Rattle.dest.specs.declared.flags.Flags.{Flags}
 use Rattle.dest.specs.declared.rows.StorageRow.{StorageRow}
-use Rattle.machine.specs.Sizes.{bankWords, configCount, destCount, markCount, rowCells}
+use Rattle.machine.specs.Sizes.{configCount, destCount, markCount, rowCells}
+use Rattle.effects.specs.Marks.{flagsIn}
 use Rattle.answers.specs.Answers.{Told, accepted, provided, Call, checked}
 use Rattle.row_cells.specs.Cells.{highHalves, lowHalves, wideCells}
 
@@ -31,13 +30,9 @@ storedRow s q =
 unfoldable pub withStoredRow : DestStore → StorageRow → List ℕ → DestStore
 withStoredRow s q cells = destStore (over (s .dest) (q .0 * rowCells) cells) (set (s .marks) (q .0) true)
 
--- the flags are in the named bank's word 255
-abbrev pub flagsIn : List ℕ → ℕ → Flags
-flagsIn config bank = flagsOf (getD config (bank * bankWords + flagWord) 0)
-
--- the storage row of a 16-bit view row
+-- the storage row of a 16-bit view row, by the flags in the named bank's word 255
 abbrev pub row16At : List ℕ → ℕ → ℕ → StorageRow
-row16At config bank row = storage16 (flagsIn config bank) (view16 row)
+row16At config bank row = storage16 (flagsIn bank config) (view16 row)
 
 -- the storage rows of the halves of a 32-bit view row
 pub record HalfRows : Type 0 where
@@ -46,7 +41,7 @@ pub record HalfRows : Type 0 where
 
 abbrev pub rows32At : List ℕ → ℕ → ℕ → HalfRows
 rows32At config bank row =
-    record { high = high32 (flagsIn config bank) (view32 row); low = low32 (flagsIn config bank) (view32 row) }
+    record { high = high32 (flagsIn bank config) (view32 row); low = low32 (flagsIn bank config) (view32 row) }
 
 -- 4: Config, Dest or its marks of wrong length; 11: bank over 1. By their types all their numbers are in range, so 10 is never given
 unfoldable pub bankCheck : {A : Type 0} → ℕ → ℕ → ℕ → ℕ → Told A → Told A

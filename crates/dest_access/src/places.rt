@@ -3,7 +3,8 @@ ghost use mathlib.Core.Path.{_≡_};
 ghost use lib.ListN.{length};
 ghost use Rattle.dest.specs.Rows.{rows16, rows32};
 ghost use Rattle.answers.specs.Answers.{accepted};
-ghost use Rattle.dest_access.specs.DestRows.{bankCheck, destCheck, flagsIn, row16At, rows32At};
+ghost use Rattle.effects.specs.Marks.{flagsIn};
+ghost use Rattle.dest_access.specs.DestRows.{bankCheck, destCheck, row16At, rows32At};
 ghost use Rattle.dest_access.specs.Places.{toldFlags, toldRow, toldRows};
 use dest::flags::FLAG_WORD;
 use dest::flags::Flags;
@@ -40,7 +41,7 @@ pub enum Place32 {
 
 // `cells` and `marks` are how many of them are lent.
 fn find_flags(config: &[u32], cells: usize, marks: usize, bank: u32) -> Setting
-    ensures { λ r. ⌜ toldFlags r ≡ bankCheck (length (now (config .entry))) cells marks bank (accepted (flagsIn (now (config .entry)) bank)) ⌝ }
+    ensures { λ r. ⌜ toldFlags r ≡ bankCheck (length (now (config .entry))) cells marks bank (accepted (flagsIn bank (now (config .entry)))) ⌝ }
 {
     let sized = bits::both(
         config.len() == CONFIG_WORDS,
