@@ -1,13 +1,11 @@
 -- When a word passes, and what a call of `step` then is.
 use Prim.Native.Nat.{ℕ, _<_}
-use mathlib.Core.Path.{_≡_, refl, sym, ap, _∙_}
-use mathlib.Core.Bool.{Bool, true, false, cond, not, _&&_}
-use Rattle.bits.specs.Field.{flag}
+use mathlib.Core.Path.{_≡_, refl, sym, ap}
+use mathlib.Core.Bool.{Bool, true, cond, not}
 use Rattle.bits.proofs.Choices.{and-left, and-right}
 use Rattle.machine.specs.declared.refusal.Outcome.the-variants.{Refused}
 use Rattle.machine.specs.declared.refusal.Refusal.{Refusal}
 use Rattle.machine.specs.declared.refusal.StallCause.the-variants.{WaitHolds}
-use Rattle.machine.specs.Control.{waitOf}
 use Rattle.machine.specs.Formed.{sized, formed, wellFormed}
 use Rattle.machine.specs.Machine.{Machine}
 use Rattle.word_rules.specs.declared.instruction.ConfigWord.{ConfigWord}
@@ -18,11 +16,10 @@ use Rattle.word_rules.specs.declared.instruction.Decoded.the-variants.{Decodes,
 use Rattle.word_rules.specs.Decode.{decodeOf}
 use Rattle.gate.specs.declared.Gate.{Gate}
 use Rattle.gate.specs.declared.Gate.the-variants.{Open, Closed}
-use Rattle.gate.specs.Waits.{holdsNow}
-use Rattle.gate.specs.Gate.{blockOf, gateOf}
+use Rattle.gate.specs.Gate.{gateOf}
 use Rattle.step_rules.specs.declared.CallCheck.the-variants.{Fine}
-use Rattle.step_rules.specs.Step.{stepped, passOf, checkOf, stepOf}
-use Rattle.step_rules.proofs.Ways.{check-fine, call-offered, word-decoded, word-refused, gate-open}
+use Rattle.step_rules.specs.Step.{stepped, passOf, byGate, gatedOf, checkOf, stepOf}
+use Rattle.step_rules.proofs.Ways.{check-fine, call-offered, word-decoded, word-refused}
 use Rattle.acceptance.specs.Worked.{Ready}
 
 fine : (m : Machine) (t : ℕ) → wellFormed m ≡ true → t < 3 → Fine ≡ checkOf m t
@@ -31,11 +28,14 @@ fine m t e h =
     let f = and-right (sized m) (formed m) e in
     check-fine m t (sized m) (formed m) refl refl (ap (λ (b : Bool). not b) s) (ap (λ (b : Bool). not b) f) h
 
+gate-open : (m : Machine) (t : ℕ) (i : Instruction) → gateOf (m .control) t i ≡ Open → passOf m t i ≡ gatedOf m t i
+unfolding gatedOf
+gate-open m t i g = ap (λ (x : Gate). byGate m t i x) (sym g)
+
 passing : (m : Machine) (t w : ℕ) (i : Instruction) → wellFormed m ≡ true → t < 3 → decodeOf w ≡ Decodes i →
     gateOf (m .control) t i ≡ Open → stepOf m t w ≡ passOf m t i
 passing m t w i e h d g =
-    let gated = gate-open m t i (gateOf (m .control) t i) refl (passOf m t i) g refl in
-    let offered = word-decoded m t w (decodeOf w) refl i (passOf m t i) d gated in
+    let offered = word-decoded m t w (decodeOf w) refl i (passOf m t i) d (gate-open m t i g) in
     sym (call-offered m t (checkOf m t) refl w (passOf m t i) (sym (fine m t e h)) offered)
 
 pub refusing : (m : Machine) (t w : ℕ) (r : Refusal) → wellFormed m ≡ true → t < 3 → decodeOf w ≡ Rejects r →

@@ -1,11 +1,11 @@
 -- M1 to M11: each word is decoded and done by computation, on any machine.
 use Prim.Native.Nat.{ℕ, _+_, _*_, _%_, _^_, _≤_, _<_}
-use mathlib.Core.Path.{_≡_, refl, sym, ap, _∙_}
+use mathlib.Core.Path.{_≡_, refl, ap, _∙_}
 use mathlib.Core.Bool.{Bool, true, false, _&&_, _||_}
 use mathlib.Core.List.{List, [], _∷_}
 use native.Mathlib.Omega.{arith}
 use lib.Dec.{ltb}
-use lib.ListN.{length, set, getD}
+use lib.ListN.{length, set}
 use borrow.Author.Tests.{le-ltb, le-leb}
 use Rattle.bits.specs.Field.{field, withByte, withLow}
 use Rattle.bits.specs.Overwrite.{over}
@@ -20,10 +20,9 @@ use Rattle.machine.specs.Units.{gpr, halfRegister}
 use Rattle.word_rules.specs.declared.instruction.Operand.the-variants.{Constant, Register}
 use Rattle.word_rules.specs.declared.instruction.ScalarWord.{ScalarWord}
 use Rattle.word_rules.specs.declared.instruction.ScalarWord.the-variants.{SetDmaReg, AddDmaReg, MulDmaReg}
-use Rattle.word_rules.specs.declared.instruction.ConfigWord.{ConfigWord}
 use Rattle.word_rules.specs.declared.instruction.ConfigWord.the-variants.{WrCfg, RmwCib}
 use Rattle.word_rules.specs.declared.instruction.Instruction.the-variants.{Scalar, Config}
-use Rattle.word_rules.specs.declared.instruction.Decoded.the-variants.{Decodes, Rejects}
+use Rattle.word_rules.specs.declared.instruction.Decoded.the-variants.{Decodes}
 use Rattle.word_rules.specs.Decode.{decodeOf}
 use Rattle.word_rules.proofs.Examples.{low-half-of-four, add-constant, multiply-registers, second-byte, last-index, past-last-index, four-words}
 use Rattle.control.specs.After.{controlAfter}

@@ -1,17 +1,16 @@
 -- Document 01's worked examples M1 to M11, over the definitions that the contracts cite.
-use Prim.Native.Nat.{ℕ, _+_, _*_, _<_, _≤_}
+use Prim.Native.Nat.{ℕ, _<_, _≤_}
 use mathlib.Core.Path.{_≡_}
-use mathlib.Core.Bool.{Bool, true, false, _&&_}
+use mathlib.Core.Bool.{true, false, _&&_}
 use mathlib.Core.List.{List, [], _∷_}
 use lib.ListN.{length, set, getD}
 use Rattle.bits.specs.Field.{flag, withLow}
 use Rattle.bits.specs.Overwrite.{over}
-use Rattle.machine.specs.declared.control.Control.{Control}
 use Rattle.machine.specs.declared.refusal.Outcome.the-variants.{Passed, Refused}
 use Rattle.machine.specs.declared.refusal.Refusal.the-variants.{BadField}
 use Rattle.machine.specs.Control.{waitOf}
 use Rattle.machine.specs.Formed.{wellFormed}
-use Rattle.machine.specs.Machine.{Machine, Stores, machine, stores}
+use Rattle.machine.specs.Machine.{Machine, machine, stores}
 use Rattle.machine.specs.Numbers.{numberOf}
 use Rattle.machine.specs.Sizes.{configCount, destCount, markCount}
 use Rattle.machine.specs.Units.{gpr, gprPlace}

@@ -1,7 +1,7 @@
 -- What SETDVALID and CLEARDVALID do to bank owners and pointers.
 use Prim.Native.Nat.{ℕ, _+_, _*_, _-_}
 use mathlib.Core.Bool.{Bool, cond}
-use lib.ListN.{set, getD, replicate}
+use lib.ListN.{set, replicate}
 use Rattle.machine.specs.declared.control.Control.{Control}
 use Rattle.machine.specs.Control.{withBanks}
 use Rattle.banks.specs.Owners.{matrixBank, unpackBank}

@@ -1,22 +1,21 @@
 -- A word that passes keeps a well-formed control part well formed.
-use Prim.Native.Nat.{ℕ, zero, suc, _+_, _*_, _-_, _≤_, _<_, _/_}
-use mathlib.Core.Path.{_≡_, refl, ap, _∙_}
-use mathlib.Core.Bool.{Bool, true, false, cond, _&&_}
-use mathlib.Core.List.{List, [], _∷_}
+use Prim.Native.Nat.{ℕ, _+_, _-_, _≤_, _<_, _/_}
+use mathlib.Core.Path.{_≡_, refl, _∙_}
+use mathlib.Core.Bool.{Bool, true, cond, _&&_}
+use mathlib.Core.List.{List}
 use native.Mathlib.Omega.{arith}
-use lib.Dec.{leb, ltb, eqb}
-use lib.ListN.{length, set, getD, length-set, replicate}
-use borrow.Author.Tests.{le-leb, leb-true, ltb-true}
-use Rattle.bits.specs.Field.{lowBit}
+use lib.Dec.{leb, eqb}
+use lib.ListN.{length, set, getD, length-set}
+use borrow.Author.Tests.{le-leb}
 use Rattle.bits.specs.Ranges.{allAtMost}
-use Rattle.bits.proofs.Choices.{and-left, and-right, and-intro, cond-both, cond-cases}
-use Rattle.bits.proofs.Ranges.{at-most-at, at-most-set, at-most-replicate}
+use Rattle.bits.proofs.Choices.{and-intro, cond-both}
+use Rattle.bits.proofs.Ranges.{at-most-set}
 use Rattle.machine.specs.declared.control.Wait.{Wait}
 use Rattle.machine.specs.declared.control.Wait.the-variants.{Clear, OnStall, OnSemaphore}
 use Rattle.machine.specs.declared.control.Thread.{Thread}
 use Rattle.machine.specs.declared.control.Semaphore.{Semaphore}
 use Rattle.machine.specs.declared.control.Control.{Control}
-use Rattle.machine.specs.Control.{withThreads, withThread, withMutexes, withSemaphores, withBanks, waitOf}
+use Rattle.machine.specs.Control.{withThreads, withThread, withMutexes, withSemaphores, waitOf}
 use Rattle.machine.specs.Formed.{waitFormed, semaphoresFormed, controlFormed}
 use Rattle.machine.proofs.ControlFacts.{ControlFacts, control-facts, control-formed}
 use Rattle.word_rules.specs.declared.instruction.Instruction.{Instruction}
@@ -32,7 +31,8 @@ use Rattle.semaphores.specs.Semaphores.{changeMasked}
 use Rattle.semaphores.proofs.Keeps.{ChangeInRange, change-long, change-formed}
 use Rattle.banks.proofs.Keeps.{set-dvalid-facts, clear-dvalid-facts}
 use Rattle.gate.specs.Waits.{holdsNow}
-use Rattle.control.specs.After.{withWait, dropLifted, released, syncAfter, matrixAfter, wordAfter, controlAfter}
+use Rattle.control.specs.After.{withWait, dropLifted, syncAfter, matrixAfter, wordAfter, controlAfter}
+use Rattle.control.specs.Changes.{droppedIf}
 
 -- ---- one part replaced by one in range
 module _ (c : Control) (f : ControlFacts c) where
@@ -102,8 +102,9 @@ drop-facts c t Clear f = f
 drop-facts c t (OnStall b k) f = cond-both ControlFacts (holdsNow c (OnStall b k)) f (thread-facts c f t (record { wait = Clear }) refl)
 drop-facts c t (OnSemaphore b m k) f = cond-both ControlFacts (holdsNow c (OnSemaphore b m k)) f (thread-facts c f t (record { wait = Clear }) refl)
 
-pub drop-formed : (c : Control) (t : ℕ) (w : Wait) → controlFormed c ≡ true → controlFormed (dropLifted c t w) ≡ true
-drop-formed c t w h = control-formed _ (drop-facts c t w (control-facts c h))
+pub dropped-formed : (c : Control) (t : ℕ) (drops : Bool) → controlFormed c ≡ true → controlFormed (droppedIf c t drops) ≡ true
+dropped-formed c t drops h =
+    control-formed _ (cond-both ControlFacts drops (thread-facts c (control-facts c h) t (record { wait = Clear }) refl) (control-facts c h))
 
 -- ---- the word's own effect
 mutex-set-facts : (c : Control) → ControlFacts c → (m v : ℕ) → v ≤ 3 → ControlFacts (withMutexes c (set (c .mutexes) m v))

@@ -1,2 +1,2 @@
 pub mod Keeps
-pub mod NoWait
+pub mod Changing

@@ -1,6 +1,6 @@
 -- The control part after a word that passes.
 use Prim.Native.Nat.{ℕ, _+_}
-use mathlib.Core.Bool.{Bool, true, false, cond}
+use mathlib.Core.Bool.{cond}
 use mathlib.Core.List.{List}
 use lib.Dec.{eqb}
 use lib.ListN.{set, getD}
@@ -22,11 +22,6 @@ use Rattle.banks.specs.Banks.{setDValidAfter, clearDValidAfter}
 
 abbrev pub withWait : Control → ℕ → Wait → Control
 withWait c t w = withThread c t (record { wait = w })
-
-abbrev pub isWait : Wait → Bool
-isWait Clear = false
-isWait (OnStall block conditions) = true
-isWait (OnSemaphore block mask condition) = true
 
 -- a passing word drops a lifted wait
 abbrev pub dropLifted : Control → ℕ → Wait → Control

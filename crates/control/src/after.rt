@@ -1,14 +1,13 @@
 // The control part after a word that passes.
 ghost use mathlib.Core.Path.{_≡_};
-ghost use mathlib.Core.Bool.{true, cond};
+ghost use mathlib.Core.Bool.{true};
 ghost use Prim.Native.Nat.{_<_};
 ghost use lib.ListN.{set};
-ghost use Rattle.machine.specs.declared.control.Wait.the-variants.{Clear};
-ghost use Rattle.machine.specs.Control.{withMutexes, waitOf};
+ghost use Rattle.machine.specs.Control.{withMutexes};
 ghost use Rattle.machine.specs.Formed.{controlFormed};
 ghost use Rattle.word_rules.specs.InRange.{InRange, SyncInRange};
-ghost use Rattle.control.specs.After.{withWait, isWait, dropLifted, released, changeSemaphores, syncAfter, matrixAfter, wordAfter, controlAfter};
-use gate::waits;
+ghost use Rattle.control.specs.After.{withWait, released, changeSemaphores, syncAfter, matrixAfter, wordAfter};
+ghost use Rattle.control.specs.Changes.{droppedIf, matrixTouches, wordTouches, changeOf, ChangeFits, changedBy};
 use machine::control::Control;
 use machine::control::Thread;
 use machine::control::Wait;
@@ -24,71 +23,14 @@ fn with_wait(c: Control, t: usize, w: Wait) -> Control
     machine::control::with_thread(c, t, Thread { wait: w })
 }
 
-fn clear_unless(c: Control, t: usize, held: bool) -> Control
+fn drop_if(c: Control, t: usize, drops: bool) -> Control
     requires { ⌜ t < 3 ⌝ }
-    ensures { λ r. ⌜ r ≡ cond held c (withWait c t Clear) ⌝ }
+    ensures { λ r. ⌜ r ≡ droppedIf c t drops ⌝ }
 {
-    if held {
-        return c;
+    if drops {
+        return with_wait(c, t, Wait::Clear);
     }
-    with_wait(c, t, Wait::Clear)
-}
-
-fn drop_lifted(c: Control, t: usize, w: Wait) -> Control
-    requires { ⌜ (controlFormed c ≡ true) × (t < 3) ⌝ }
-    ensures { λ r. ⌜ r ≡ dropLifted c t w ⌝ }
-{
-    match w {
-        Wait::Clear => c,
-        Wait::OnStall {
-            block: _,
-            conditions: _,
-        } => clear_unless(c, t, waits::holds(c, w)),
-        Wait::OnSemaphore {
-            block: _,
-            mask: _,
-            condition: _,
-        } => clear_unless(c, t, waits::holds(c, w)),
-    }
-}
-
-fn is_wait(w: Wait) -> bool
-    ensures { λ r. ⌜ r ≡ isWait w ⌝ }
-{
-    match w {
-        Wait::Clear => false,
-        Wait::OnStall {
-            block: _,
-            conditions: _,
-        } => true,
-        Wait::OnSemaphore {
-            block: _,
-            mask: _,
-            condition: _,
-        } => true,
-    }
-}
-
-// Whether a thread has a wait at all, chosen as a block mask is.
-fn has_wait(c: Control, t: usize) -> bool
-    ensures { λ r. ⌜ r ≡ isWait (waitOf c t) ⌝ }
-{
-    let x0 = c.t0;
-    let x1 = c.t1;
-    let x2 = c.t2;
-    let w0 = x0.wait;
-    let w1 = x1.wait;
-    let w2 = x2.wait;
-    let h0 = is_wait(w0);
-    let h1 = is_wait(w1);
-    let h2 = is_wait(w2);
-    if t == 0 {
-        return h0;
-    }
-    if t == 1 {
-        return h1;
-    }
-    h2
+    c
 }
 
 fn with_mutex(c: Control, m: usize, holder: u8) -> Control
@@ -193,15 +135,67 @@ fn word_after(c: Control, t: usize, i: Instruction) -> Control
     }
 }
 
-// The control part after a word that passes. Internal: the control part, the thread and the instruction are in range.
-pub fn control_after(c: Control, t: usize, i: Instruction) -> Control
-    requires { ⌜ (controlFormed c ≡ true) × (t < 3) × InRange i ⌝ }
-    ensures { λ r. ⌜ r ≡ controlAfter c t i ⌝ }
+fn matrix_touches(x: MatrixWord) -> bool
+    ensures { λ r. ⌜ r ≡ matrixTouches x ⌝ }
 {
-    if has_wait(c, t) {
-        let th = machine::control::thread_of(c, t);
-        let w = th.wait;
-        return word_after(drop_lifted(c, t, w), t, i);
+    match x {
+        MatrixWord::TrnspSrcB => false,
+        MatrixWord::MovB2A {
+            row_a: _,
+            four: _,
+            row_b: _,
+        } => false,
+        MatrixWord::ZeroAcc {
+            mode: _,
+            wide: _,
+            place: _,
+        } => false,
+        MatrixWord::ClearDValid {
+            a: _,
+            b: _,
+            keep: _,
+            reset: _,
+        } => true,
+        MatrixWord::SetDValid { a: _, b: _ } => true,
     }
-    word_after(c, t, i)
+}
+
+// Whether the word's own effect is on the control part.
+fn touches(i: Instruction) -> bool
+    ensures { λ r. ⌜ r ≡ wordTouches i ⌝ }
+{
+    match i {
+        Instruction::Nop => false,
+        Instruction::Scalar(_) => false,
+        Instruction::Sync(_) => true,
+        Instruction::Config(_) => false,
+        Instruction::Matrix(x) => matrix_touches(x),
+    }
+}
+
+// What a passed word changes in the control part: nothing, or what its own effect changes, after a lifted wait is dropped. A turn
+// hands this on, and not the control part, which is then copied only where it changes.
+pub enum Change {
+    Kept,
+    Made { drops: bool, word: Instruction },
+}
+
+pub fn change_of(drops: bool, i: Instruction) -> Change
+    ensures { λ r. ⌜ r ≡ changeOf drops i ⌝ }
+{
+    if bits::either(drops, touches(i)) {
+        return Change::Made { drops, word: i };
+    }
+    Change::Kept
+}
+
+// The control part after the change. Internal: the control part, the thread and the change are in range.
+pub fn changed(c: Control, t: usize, k: Change) -> Control
+    requires { ⌜ (controlFormed c ≡ true) × (t < 3) × ChangeFits k ⌝ }
+    ensures { λ r. ⌜ r ≡ changedBy c t k ⌝ }
+{
+    match k {
+        Change::Kept => c,
+        Change::Made { drops, word } => word_after(drop_if(c, t, drops), t, word),
+    }
 }

@@ -8,9 +8,9 @@ use Rattle.bits.proofs.Choices.{cond-cases}
 use Rattle.dest.specs.declared.rows.View16Row.{View16Row}
 use Rattle.dest.specs.declared.rows.View32Row.{View32Row}
 use Rattle.dest.specs.declared.rows.Row16.{Row16}
-use Rattle.dest.specs.declared.rows.Row16.the-variants.{In16, Past16}
+use Rattle.dest.specs.declared.rows.Row16.the-variants.{In16}
 use Rattle.dest.specs.declared.rows.Row32.{Row32}
-use Rattle.dest.specs.declared.rows.Row32.the-variants.{In32, Past32}
+use Rattle.dest.specs.declared.rows.Row32.the-variants.{In32}
 use Rattle.dest.specs.Rows.{rows16, rows32, view16, view32, row16Of, row32Of}
 
 pub in16 : (n : ℕ) (r : View16Row) → row16Of n ≡ In16 r → (n < rows16) × (r ≡ view16 n)

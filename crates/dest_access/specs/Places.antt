@@ -1,5 +1,4 @@
 -- What the functions tell that look for the place of a call.
-use Prim.Native.Nat.{ℕ}
 use Rattle.dest.specs.declared.flags.Flags.{Flags}
 use Rattle.dest.specs.declared.rows.StorageRow.{StorageRow}
 use Rattle.machine.specs.Numbers.{numberOf, valuesOf}

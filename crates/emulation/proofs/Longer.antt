@@ -2,7 +2,6 @@
 use Prim.Native.Nat.{ℕ}
 use mathlib.Core.Path.{_≡_, refl}
 use mathlib.Core.List.{List, _++_}
-use lib.ListN.{length}
 use Rattle.records.specs.declared.script.ScriptRead.{ScriptRead}
 use Rattle.records.specs.declared.script.ScriptRead.the-variants.{Sound, BadAt}
 use Rattle.records.specs.Script.{scriptOf}

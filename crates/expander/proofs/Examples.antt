@@ -2,7 +2,7 @@
 use mathlib.Core.Path.{refl}
 use Rattle.expander.specs.Promises.{ExpanderExamples}
 use Rattle.expander.specs.Stream.{mopWords, wordOf, streamOf}
-use Rattle.expander.specs.Templates.{rounds, group, maskGroup, maskBit, lastWord, innerRound, outerRound}
+use Rattle.templates.specs.Templates.{rounds, group, maskGroup, maskBit, lastWord, innerRound, outerRound}
 
 pub examples : ExpanderExamples
 unfolding streamOf wordOf mopWords rounds group maskGroup maskBit lastWord innerRound outerRound

@@ -12,13 +12,13 @@ use lib.Seq.{drop-cons}
 use borrow.Author.Tests.{eq-eqb, ne-eqb}
 use Rattle.bits.specs.Field.{field, flag}
 use Rattle.expander.specs.Call.{isTemplate1, anyTemplate1}
-use Rattle.expander.specs.Counts.{groupCount, outerCount, mopCount, wordCount, streamCount}
+use Rattle.templates.specs.Templates.{groupCount, outerCount, nth, maskBit, maskRound, outerRound, template0, template1}
+use Rattle.expander.specs.Counts.{mopCount, wordCount, streamCount}
 use Rattle.expander.specs.Promises.{CutAnywhere}
 use Rattle.expander.specs.Stream.{Emission, emission, followedBy, carry, opcode, mopWords, wordOf, streamOf}
-use Rattle.expander.specs.Templates.{nth, maskBit, maskRound, outerRound, template0, template1}
 use Rattle.expander.specs.declared.Carried.{Carried}
 use Rattle.bits.proofs.Choices.{cond-both}
-use Rattle.expander.proofs.Rounds.{rounds-long, outer-long, mask-group-long}
+use Rattle.templates.proofs.Rounds.{rounds-long, outer-long, mask-group-long}
 
 -- a stream may be cut between any two words
 pub cut : CutAnywhere

@@ -1,5 +1,3 @@
-pub mod Writing
-pub mod Rounds
 pub mod Folds
 pub mod Examples
 pub mod Calls

@@ -8,7 +8,7 @@ use Rattle.bits.specs.Field.{flag}
 use Rattle.bits.specs.Overwrite.{over}
 use Rattle.answers.specs.Answers.{Told, accepted, refused}
 use Rattle.expander.specs.Stream.{Emission, opcode, streamOf}
-use Rattle.expander.specs.Templates.{nth}
+use Rattle.templates.specs.Templates.{nth}
 use Rattle.expander.specs.declared.Answer.{Answer}
 use Rattle.expander.specs.declared.Answer.the-variants.{Done, Refused}
 use Rattle.expander.specs.declared.Carried.{Carried}

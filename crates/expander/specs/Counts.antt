@@ -5,18 +5,11 @@ use mathlib.Core.List.{List, [], _∷_}
 use lib.Dec.{eqb}
 use Rattle.bits.specs.Field.{field, flag}
 use Rattle.expander.specs.Stream.{opcode}
-use Rattle.expander.specs.Templates.{nth}
+use Rattle.templates.specs.Templates.{nth, groupCount, outerCount}
 
 -- a count that stops one past its limit
 abbrev pub capped : ℕ → ℕ → ℕ
 capped limit n = min n (limit + 1)
-
--- the words of a round of template 0, and of an outer round of template 1
-abbrev pub groupCount : List ℕ → ℕ
-groupCount m = 1 + 3 * field 1 1 (nth m 1) + field 0 1 (nth m 1)
-
-abbrev pub outerCount : ℕ → ℕ
-outerCount inner = 3 + 2 * inner
 
 unfoldable pub mopCount : List ℕ → ℕ → ℕ
 mopCount m word = cond (flag 23 word) (nth m 0 * outerCount (nth m 1)) ((field 16 7 word + 1) * groupCount m)

@@ -1,4 +1,3 @@
-pub mod Templates
 pub mod Stream
 pub mod Call
 pub mod Counts

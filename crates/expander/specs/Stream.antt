@@ -4,7 +4,7 @@ use mathlib.Core.Bool.{cond}
 use mathlib.Core.List.{List, [], _∷_, _++_}
 use lib.Dec.{eqb}
 use Rattle.bits.specs.Field.{field, flag}
-use Rattle.expander.specs.Templates.{template0, template1}
+use Rattle.templates.specs.Templates.{template0, template1}
 use Rattle.expander.specs.declared.Carried.{Carried}
 
 -- the words that come out, and what is carried on

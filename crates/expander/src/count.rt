@@ -2,7 +2,8 @@
 ghost use mathlib.Core.Path.{_≡_};
 ghost use Prim.Native.Nat.{_+_, _*_, _≤_};
 ghost use lib.ListN.{length};
-ghost use Rattle.expander.specs.Counts.{capped, groupCount, outerCount, mopCount, wordCount, streamCount};
+ghost use Rattle.templates.specs.Templates.{groupCount, outerCount};
+ghost use Rattle.expander.specs.Counts.{capped, mopCount, wordCount, streamCount};
 
 // n, or one past the limit where it passes it.
 fn cap(n: usize, limit: usize) -> usize

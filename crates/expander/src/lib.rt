@@ -10,10 +10,7 @@ use machine::sizes::STREAM_WORDS;
 
 mod count;
 mod limits;
-mod put;
 mod stream;
-mod template_0;
-mod template_1;
 
 // What a thread's expander carries from one call to the next.
 pub struct Carried {

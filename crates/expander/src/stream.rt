@@ -6,9 +6,9 @@ ghost use lib.ListN.{length};
 ghost use Rattle.bits.specs.Overwrite.{over, Wrote};
 ghost use Rattle.expander.specs.Stream.{mopWords, wordOf, streamOf};
 use crate::Carried;
-use crate::put::put_word;
-use crate::template_0::put_template_0;
-use crate::template_1::put_template_1;
+use templates::put::put_word;
+use templates::template_0::put_template_0;
+use templates::template_1::put_template_1;
 
 fn put_mop(nine: &[u32], carried: Carried, word: u32, at: usize, out: &mut [u32]) -> usize
     requires { ⌜ (length (now nine) ≡ 9) × (at + length (mopWords (now nine) carried word) ≤ length (now out)) ⌝ }

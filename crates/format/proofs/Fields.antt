@@ -12,7 +12,7 @@ use borrow.Author.Tests.{le-ltb, lt-ltb, le-leb, lt-leb, ltb-true, ltb-false, le
 use Rattle.bits.specs.Bytes.{le, Bytes}
 use Rattle.bits.proofs.Bytes.{bytes-drop, le-lt}
 use Rattle.bits.proofs.Choices.{and-left, and-right, cond-both}
-use Rattle.format.specs.Format.{numGood, both, manyGood, onward}
+use Rattle.format.specs.Format.{numGood, manyGood, onward}
 
 -- ---- one field of w bytes
 module _ (w lo hi : ℕ) (bs : List ℕ) where

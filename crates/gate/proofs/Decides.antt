@@ -6,7 +6,6 @@ use Rattle.machine.specs.declared.control.Control.{Control}
 use Rattle.machine.specs.declared.refusal.StallCause.the-variants.{WaitHolds}
 use Rattle.machine.specs.Control.{waitOf}
 use Rattle.word_rules.specs.declared.instruction.Instruction.{Instruction}
-use Rattle.gate.specs.declared.Gate.{Gate}
 use Rattle.gate.specs.declared.Gate.the-variants.{Closed}
 use Rattle.gate.specs.Gate.{waitStalls, wordGate, gateOf}
 
@@ -15,8 +14,8 @@ module _ (c : Control) (t : ℕ) (i : Instruction) (s : Bool) (h : s ≡ waitSta
   unfolding gateOf
   by-test = ap (λ (b : Bool). cond b (Closed WaitHolds) (wordGate c t i)) (sym h)
 
-  pub gate-closed : s ≡ true → Closed WaitHolds ≡ gateOf c t i
-  gate-closed k = sym (by-test ∙ ap (λ (b : Bool). cond b (Closed WaitHolds) (wordGate c t i)) k)
+  pub stall-closes : s ≡ true → Closed WaitHolds ≡ gateOf c t i
+  stall-closes k = sym (by-test ∙ ap (λ (b : Bool). cond b (Closed WaitHolds) (wordGate c t i)) k)
 
-  pub gate-word : s ≡ false → gateOf c t i ≡ wordGate c t i
-  gate-word k = by-test ∙ ap (λ (b : Bool). cond b (Closed WaitHolds) (wordGate c t i)) k
+  pub word-decides : s ≡ false → gateOf c t i ≡ wordGate c t i
+  word-decides k = by-test ∙ ap (λ (b : Bool). cond b (Closed WaitHolds) (wordGate c t i)) k

@@ -22,3 +22,12 @@ abbrev pub holdsNow : Control → Wait → Bool
 holdsNow c Clear = false
 holdsNow c (OnStall block conditions) = stallHolds c conditions
 holdsNow c (OnSemaphore block mask condition) = someMeets condition (c .semaphores) mask
+
+abbrev pub isWait : Wait → Bool
+isWait Clear = false
+isWait (OnStall block conditions) = true
+isWait (OnSemaphore block mask condition) = true
+
+-- there is a wait, and it is lifted: a passing word drops it
+abbrev pub liftedNow : Control → Wait → Bool
+liftedNow c w = isWait w && not (holdsNow c w)

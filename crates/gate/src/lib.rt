@@ -9,8 +9,8 @@ ghost use Rattle.gate.specs.declared.Gate.the-variants.{Open, Closed};
 ghost use Rattle.machine.specs.Control.{waitOf};
 ghost use Rattle.machine.specs.Formed.{controlFormed};
 ghost use Rattle.word_rules.specs.InRange.{InRange, SyncInRange};
-ghost use Rattle.gate.specs.Gate.{blockOf, namedBy, waitStalls, mutexOpen, syncGate, matrixGate, wordGate, gateOf};
-ghost use Rattle.gate.specs.Waits.{holdsNow};
+ghost use Rattle.gate.specs.Gate.{blockOf, namedBy, waitStalls, mutexOpen, syncGate, matrixGate, wordGate};
+ghost use Rattle.gate.specs.Waits.{holdsNow, isWait, liftedNow};
 use banks::owners::matrix_owns;
 use machine::control::Control;
 use machine::control::Wait;
@@ -88,14 +88,78 @@ fn thread_holds(c: Control, t: usize) -> bool
     waits::holds(c, w)
 }
 
-fn wait_stalls(c: Control, t: usize, i: Instruction) -> bool
-    requires { ⌜ (controlFormed c ≡ true) × (t < 3) ⌝ }
-    ensures { λ r. ⌜ r ≡ waitStalls c (waitOf c t) i ⌝ }
+fn is_wait(w: Wait) -> bool
+    ensures { λ r. ⌜ r ≡ isWait w ⌝ }
 {
-    if named_by(thread_block(c, t), i) {
-        return thread_holds(c, t);
+    match w {
+        Wait::Clear => false,
+        Wait::OnStall {
+            block: _,
+            conditions: _,
+        } => true,
+        Wait::OnSemaphore {
+            block: _,
+            mask: _,
+            condition: _,
+        } => true,
     }
-    false
+}
+
+// Whether a thread has a wait at all, chosen as a block mask is.
+fn has_wait(c: Control, t: usize) -> bool
+    ensures { λ r. ⌜ r ≡ isWait (waitOf c t) ⌝ }
+{
+    let x0 = c.t0;
+    let x1 = c.t1;
+    let x2 = c.t2;
+    let w0 = x0.wait;
+    let w1 = x1.wait;
+    let w2 = x2.wait;
+    let h0 = is_wait(w0);
+    let h1 = is_wait(w1);
+    let h2 = is_wait(w2);
+    if t == 0 {
+        return h0;
+    }
+    if t == 1 {
+        return h1;
+    }
+    h2
+}
+
+fn thread_named(c: Control, t: usize, i: Instruction) -> bool
+    ensures { λ r. ⌜ r ≡ namedBy (blockOf (waitOf c t)) i ⌝ }
+{
+    named_by(thread_block(c, t), i)
+}
+
+// What a thread's wait makes of a word: whether it stalls it, and whether it is lifted, so that a passing word drops it.
+pub struct Judged {
+    pub stalls: bool,
+    pub drops: bool,
+}
+
+// The wait is judged once a turn, and by one test where there is none. Internal: the control part and the thread are in range.
+pub fn judge(c: Control, t: usize, i: Instruction) -> Judged
+    requires { ⌜ (controlFormed c ≡ true) × (t < 3) ⌝ }
+    ensures { λ r. ⌜ (r .stalls ≡ waitStalls c (waitOf c t) i) × (r .drops ≡ liftedNow c (waitOf c t)) ⌝ }
+{
+    if has_wait(c, t) {
+        if thread_holds(c, t) {
+            return Judged {
+                stalls: thread_named(c, t, i),
+                drops: false,
+            };
+        }
+        return Judged {
+            stalls: false,
+            drops: true,
+        };
+    }
+    Judged {
+        stalls: false,
+        drops: false,
+    }
 }
 
 fn mutex_open(holder: u8, t: usize) -> bool
@@ -171,7 +235,9 @@ fn matrix_gate(c: Control, x: MatrixWord) -> Gate
     }
 }
 
-fn word_gate(c: Control, t: usize, i: Instruction) -> Gate
+// Whether a word that no wait stalls passes now, or why not. Internal: the control part, the thread and the instruction are in
+// range.
+pub fn word_gate(c: Control, t: usize, i: Instruction) -> Gate
     requires { ⌜ (controlFormed c ≡ true) × (t < 3) × InRange i ⌝ }
     ensures { λ r. ⌜ r ≡ wordGate c t i ⌝ }
 {
@@ -182,15 +248,4 @@ fn word_gate(c: Control, t: usize, i: Instruction) -> Gate
         Instruction::Config(_) => Gate::Open,
         Instruction::Matrix(x) => matrix_gate(c, x),
     }
-}
-
-// Whether the word passes now, or why not. Internal: the control part, the thread and the instruction are in range.
-pub fn may_pass(c: Control, t: usize, i: Instruction) -> Gate
-    requires { ⌜ (controlFormed c ≡ true) × (t < 3) × InRange i ⌝ }
-    ensures { λ r. ⌜ r ≡ gateOf c t i ⌝ }
-{
-    if wait_stalls(c, t, i) {
-        return Gate::Closed(StallCause::WaitHolds);
-    }
-    word_gate(c, t, i)
 }

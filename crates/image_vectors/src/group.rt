@@ -1,16 +1,15 @@
 // A group: a machine saved, and loads from what was written.
 ghost use Prim.Native.Nat.{_+_, _≤_, _<_};
 ghost use lib.ListN.{length};
-use crate::lent::make;
-use crate::lent::save;
 use crate::lines::write_saved;
 use crate::loads::run_loads;
 use crate::made::Made;
 use crate::made::least;
 use crate::made::read_made;
+use crate::parts::make;
+use crate::parts::save;
 use format::number::read;
 use image::Saved;
-use machine::control::Control;
 
 // The longest output: some bytes more than an image.
 const OUT_MOST: usize = 48640;
@@ -53,101 +52,19 @@ pub fn save_fresh() {
     write_saved(done, sum_of(&out));
 }
 
-// Saves into the first `room` bytes of the output, and writes the line.
-fn save_line(
-    c: Control,
-    settings: &[u16],
-    gprs: &[u32],
-    config: &[u32],
-    dest: &[u16],
-    marks: &[bool],
-    src_a: &[u32],
-    src_b: &[u32],
-    m: Made,
-    room: u32,
-    out: &mut [u8],
-) {
+// Makes a machine, saves it into the first `room` bytes of the output, and writes the line.
+fn save_made(m: Made, room: u32, out: &mut [u8]) {
     let n = least(room as usize, out.len());
-    let done = save(
-        c,
-        settings,
-        gprs,
-        config,
-        dest,
-        marks,
-        src_a,
-        src_b,
-        m,
-        &mut out[..n],
-    );
+    let done = save(make(m), m, &mut out[..n]);
     write_saved(done, sum_of(out));
-}
-
-// Makes a machine and saves it.
-fn save_made(
-    m: Made,
-    settings: &mut [u16],
-    gprs: &mut [u32],
-    config: &mut [u32],
-    dest: &mut [u16],
-    marks: &mut [bool],
-    src_a: &mut [u32],
-    src_b: &mut [u32],
-    room: u32,
-    out: &mut [u8],
-) {
-    let c = make(m, settings, gprs, config, dest, marks, src_a, src_b);
-    save_line(
-        c,
-        settings,
-        gprs,
-        config,
-        dest,
-        marks,
-        src_a,
-        src_b,
-        m,
-        room,
-        out,
-    );
 }
 
 // Saves one machine and loads over the other.
 fn run_made(saved: Made, room: u32, over: Made, loads: &[u8]) {
-    let mut settings = [0; 193];
-    let mut gprs = [0; 193];
-    let mut config = [0; 513];
-    let mut dest = [0; 16385];
-    let mut marks = [false; 1025];
-    let mut src_a = [0; 2049];
-    let mut src_b = [0; 2049];
     let mut out = [UNWRITTEN; OUT_MOST];
     let mut again = [0; IMAGE_BYTES];
-    save_made(
-        saved,
-        &mut settings,
-        &mut gprs,
-        &mut config,
-        &mut dest,
-        &mut marks,
-        &mut src_a,
-        &mut src_b,
-        room,
-        &mut out,
-    );
-    run_loads(
-        over,
-        &mut settings,
-        &mut gprs,
-        &mut config,
-        &mut dest,
-        &mut marks,
-        &mut src_a,
-        &mut src_b,
-        &mut out,
-        &mut again,
-        loads,
-    );
+    save_made(saved, room, &mut out);
+    run_loads(over, &mut out, &mut again, loads);
 }
 
 // Where the loads end of a group that says it has `count` of them: at the last whole load that is there.

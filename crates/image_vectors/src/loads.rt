@@ -1,18 +1,18 @@
 // The loads of a group, each over the machine that the group names.
 ghost use Prim.Native.Nat.{_+_, _≤_};
 ghost use lib.ListN.{length};
-use crate::lent::digest;
-use crate::lent::load;
-use crate::lent::make;
-use crate::lent::save;
 use crate::lines::write_refused;
 use crate::lines::write_taken;
 use crate::made::Made;
 use crate::made::least;
+use crate::parts::Parts;
+use crate::parts::PartsLoaded;
+use crate::parts::digest;
+use crate::parts::load;
+use crate::parts::make;
+use crate::parts::save;
 use format::number::read;
 use image::LoadAnswer;
-use image::Loaded;
-use machine::control::Control;
 
 // A load's place, byte and image length.
 struct Damage {
@@ -33,116 +33,30 @@ fn set_byte(out: &mut [u8], at: u32, b: u8) -> u8 {
 }
 
 // A load from the output, which is as it was afterwards.
-fn load_damaged(
-    c: Control,
-    settings: &mut [u16],
-    gprs: &mut [u32],
-    config: &mut [u32],
-    dest: &mut [u16],
-    marks: &mut [bool],
-    src_a: &mut [u32],
-    src_b: &mut [u32],
-    m: Made,
-    out: &mut [u8],
-    d: Damage,
-) -> Loaded {
+fn load_damaged(p: Parts, m: Made, out: &mut [u8], d: Damage) -> PartsLoaded {
     let old = set_byte(out, d.at, (d.byte % 256) as u8);
     let n = least(d.length as usize, out.len());
-    let done = load(
-        &out[..n],
-        c,
-        settings,
-        gprs,
-        config,
-        dest,
-        marks,
-        src_a,
-        src_b,
-        m,
-    );
+    let done = load(p, m, &out[..n]);
     set_byte(out, d.at, old);
     done
 }
 
-// A machine that was loaded: saved again, and then the group's own machine once more.
-fn taken(
-    c: Control,
-    settings: &mut [u16],
-    gprs: &mut [u32],
-    config: &mut [u32],
-    dest: &mut [u16],
-    marks: &mut [bool],
-    src_a: &mut [u32],
-    src_b: &mut [u32],
-    m: Made,
-    again: &mut [u8],
-) -> Control {
-    let sum = digest(c, settings, gprs, config, dest, marks, src_a, src_b);
-    save(
-        c,
-        settings,
-        gprs,
-        config,
-        dest,
-        marks,
-        src_a,
-        src_b,
-        m,
-        again,
-    );
+// The line of a machine that was loaded, which is saved again.
+fn write_loaded(p: Parts, m: Made, again: &mut [u8]) {
+    let sum = digest(p);
+    save(p, m, again);
     let whole = seeded::sums::add_bytes(seeded::sums::start(), again);
     write_taken(sum, seeded::sums::checksum(whole));
-    make(m, settings, gprs, config, dest, marks, src_a, src_b)
 }
 
-// One load and its line. Answers the control part of the machine for the next.
-fn run_load(
-    c: Control,
-    settings: &mut [u16],
-    gprs: &mut [u32],
-    config: &mut [u32],
-    dest: &mut [u16],
-    marks: &mut [bool],
-    src_a: &mut [u32],
-    src_b: &mut [u32],
-    m: Made,
-    out: &mut [u8],
-    again: &mut [u8],
-    d: Damage,
-) -> Control {
-    let done = load_damaged(
-        c,
-        settings,
-        gprs,
-        config,
-        dest,
-        marks,
-        src_a,
-        src_b,
-        m,
-        out,
-        d,
-    );
-    let after = done.control;
+// One load over a machine, and its line.
+fn run_load(p: Parts, m: Made, out: &mut [u8], again: &mut [u8], d: Damage) {
+    let done = load_damaged(p, m, out, d);
+    let after = done.parts;
     let answer = done.answer;
     match answer {
-        LoadAnswer::NotLoaded(r) => {
-            let sum = digest(after, settings, gprs, config, dest, marks, src_a, src_b);
-            write_refused(r, sum);
-            after
-        }
-        LoadAnswer::Taken => taken(
-            after,
-            settings,
-            gprs,
-            config,
-            dest,
-            marks,
-            src_a,
-            src_b,
-            m,
-            again,
-        ),
+        LoadAnswer::NotLoaded(r) => write_refused(r, digest(after)),
+        LoadAnswer::Taken => write_loaded(after, m, again),
     }
 }
 
@@ -156,38 +70,13 @@ fn damage_at(s: &[u8], at: usize) -> Damage
     }
 }
 
-// All loads of a group, over the machine that `m` is of.
-pub fn run_loads(
-    m: Made,
-    settings: &mut [u16],
-    gprs: &mut [u32],
-    config: &mut [u32],
-    dest: &mut [u16],
-    marks: &mut [bool],
-    src_a: &mut [u32],
-    src_b: &mut [u32],
-    out: &mut [u8],
-    again: &mut [u8],
-    loads: &[u8],
-) {
-    let mut c = make(m, settings, gprs, config, dest, marks, src_a, src_b);
+// All loads of a group, each over the machine that `m` is of.
+pub fn run_loads(m: Made, out: &mut [u8], again: &mut [u8], loads: &[u8]) {
+    let p = make(m);
     let mut at = 0;
     while 12 <= loads.len() - at {
         let d = damage_at(loads, at);
-        c = run_load(
-            c,
-            settings,
-            gprs,
-            config,
-            dest,
-            marks,
-            src_a,
-            src_b,
-            m,
-            out,
-            again,
-            d,
-        );
+        run_load(p, m, out, again, d);
         at += 12;
     }
 }

@@ -1,6 +1,8 @@
 // How a machine is made and lent.
+ghost use mathlib.Core.Path.{_≡_};
 ghost use Prim.Native.Nat.{_+_, _≤_};
 ghost use lib.ListN.{length};
+ghost use Rattle.image_vectors.specs.Lent.{leastOf, lentLength, lengthsOf, Within};
 use format::number::read;
 use machine::control::Control;
 use machine::control::Semaphore;
@@ -8,9 +10,15 @@ use machine::control::Thread;
 use machine::control::Wait;
 use machine::control::with_thread;
 use machine::sizes::BANK_POINTERS;
+use machine::sizes::CONFIG_WORDS;
+use machine::sizes::DEST_CELLS;
+use machine::sizes::DEST_ROWS;
+use machine::sizes::GPRS;
 use machine::sizes::MUTEXES;
 use machine::sizes::SEMAPHORES;
+use machine::sizes::SETTINGS;
 use machine::sizes::SOURCE_BANKS;
+use machine::sizes::SOURCE_CELLS;
 use machine::sizes::THREADS;
 
 // The machine's seed; a number of it that is set afterwards, by its kind (0 none), place and value; and the part that is lent
@@ -38,19 +46,48 @@ pub fn read_made(s: &[u8], at: usize) -> Made
 }
 
 pub fn least(a: usize, b: usize) -> usize
-    ensures { λ r. ⌜ r ≤ b ⌝ }
+    ensures { λ r. ⌜ (r ≡ leastOf a b) × (r ≤ b) ⌝ }
 {
-    if a < b { a } else { b }
+    if a < b {
+        return a;
+    }
+    b
 }
 
 // How much is lent of a part that has `n` numbers, of the `there` that there are.
-pub fn lent_length(m: Made, part: u32, n: usize, there: usize) -> usize
-    ensures { λ r. ⌜ r ≤ there ⌝ }
+fn lent_length(m: Made, part: u32, n: usize, there: usize) -> usize
+    ensures { λ r. ⌜ (r ≡ lentLength m part n there) × (r ≤ there) ⌝ }
 {
     if m.part == part {
         return least(m.length as usize, there);
     }
     least(n, there)
+}
+
+// How much is lent of each part.
+pub struct Lengths {
+    pub settings: usize,
+    pub gprs: usize,
+    pub config: usize,
+    pub dest: usize,
+    pub marks: usize,
+    pub src_a: usize,
+    pub src_b: usize,
+}
+
+// How much is lent of each part, of the one entry more than the machine's that there is.
+pub fn lent_lengths(m: Made) -> Lengths
+    ensures { λ r. ⌜ (r ≡ lengthsOf m) × Within r ⌝ }
+{
+    Lengths {
+        settings: lent_length(m, 1, SETTINGS, 193),
+        gprs: lent_length(m, 2, GPRS, 193),
+        config: lent_length(m, 3, CONFIG_WORDS, 513),
+        dest: lent_length(m, 4, DEST_CELLS, 16385),
+        marks: lent_length(m, 5, DEST_ROWS, 1025),
+        src_a: lent_length(m, 6, SOURCE_CELLS, 2049),
+        src_b: lent_length(m, 7, SOURCE_CELLS, 2049),
+    }
 }
 
 // A byte of a number, the lowest first.

@@ -5,10 +5,10 @@
 // `r N SUM` of a save, with the sum of the whole output; `t DIGEST SUM`, `r N DIGEST` or `r 9 OFFSET DIGEST` of a load, with
 // the machine's digest after it and the sum of the image that is saved of it again.
 mod group;
-mod lent;
 mod lines;
 mod loads;
 mod made;
+mod parts;
 
 ghost use mathlib.Core.Path.{_≡_};
 ghost use lib.ListN.{length};

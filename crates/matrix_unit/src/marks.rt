@@ -94,6 +94,15 @@ pub fn zero_marks(marks: &mut [bool], config: &[u32], bank: usize, mode: u8, wid
     ensures rows { λ _. ⌜ RowsCleared wide (flagsIn bank (now (config .entry))) (firstRow mode wide place) (rowCount mode wide) (now (marks .entry)) (now (marks .exit)) ⌝ }
     ensures all { λ _. ⌜ (mode ≡ 3 → now (marks .exit) ≡ replicate 1024 false) ⌝ }
 {
+    // all of storage, whatever the maps: by the map of no flag it is a fill
+    if mode == 3 {
+        let none = Flags {
+            remap: false,
+            swizzle: false,
+        };
+        clear_rows(marks, none, false, 0, View16Row::ROWS);
+        return;
+    }
     let flags = flags_of(config[config_place(bank, FLAG_WORD)]);
     let first = first_row(mode, wide, place);
     let count = row_count(mode, wide);

@@ -1,6 +1,6 @@
 -- An input with more behind it: a record that would end before is read alike.
 use Prim.Native.Nat.{ℕ, zero, suc, _+_, _*_, _-_, _≤_, _<_}
-use mathlib.Core.Path.{_≡_, refl, sym, ap, _∙_}
+use mathlib.Core.Path.{_≡_, refl, ap}
 use mathlib.Core.Bool.{Bool, true, false, cond}
 use mathlib.Core.List.{List, [], _∷_, _++_}
 use native.Mathlib.Omega.{arith}
@@ -9,7 +9,6 @@ use lib.ListN.{length, drop, length-drop, length-append}
 use lib.Seq.{drop-append-le}
 use borrow.Author.Tests.{le-leb, leb-true, ne-eqb}
 use Rattle.bits.specs.Bytes.{le}
-use Rattle.bits.proofs.Choices.{cond-cases}
 use Rattle.machine.specs.Sizes.{budgetMost, wordMost}
 use Rattle.records.specs.declared.head.BodyRead.{BodyRead}
 use Rattle.records.specs.declared.head.BodyRead.the-variants.{Body, NoBody}
@@ -28,10 +27,10 @@ use Rattle.records.specs.declared.replay_script.ReplayRead.{ReplayRead}
 use Rattle.records.specs.declared.replay_script.ReplayRead.the-variants.{Whole, Faulty}
 use Rattle.records.specs.Head.{bodyLength, recordKind, bodyOf, sameBody, hasBody}
 use Rattle.records.specs.Counts.{inWords, wordsRecordOf, past, afterSecond, afterFirst, fromStart, countsOf, wordsEnd}
-use Rattle.records.specs.Fixed.{budgetIn, budgetRecordOf, cursorIn, cursorRecordOf}
+use Rattle.records.specs.Fixed.{budgetRecordOf, cursorRecordOf}
 use Rattle.records.specs.Script.{afterBudget, afterWords, bodyMost, scriptOf}
 use Rattle.records.specs.ReplayScript.{afterPlace, afterAnyBudget, afterStreams, streamBytes, replayScriptOf}
-use Rattle.records.proofs.Fits.{few, CountFacts, count-facts}
+use Rattle.records.proofs.Fits.{few, count-facts}
 
 module _ (more : List ℕ) where
   le-longer : (w : ℕ) (l : List ℕ) → w ≤ length l → le w (l ++ more) ≡ le w l

@@ -1,14 +1,18 @@
 -- What is printed, by what came of loading the image and of reading the records.
-use Prim.Native.Nat.{ℕ, _+_}
+use Prim.Native.Nat.{ℕ, _+_, _≤_}
 use mathlib.Core.Path.{_≡_, refl, sym, ap, _∙_}
 use mathlib.Core.Bool.{Bool, true, false, cond}
 use mathlib.Core.List.{List}
 use native.Mathlib.Omega.{arith}
+use lib.ListN.{length}
 use Rattle.bits.specs.Bytes.{Bytes}
+use Rattle.bits.proofs.Choices.{and-left}
 use Rattle.machine.specs.declared.refusal.Refusal.{Refusal}
 use Rattle.machine.specs.declared.refusal.Refusal.the-variants.{BadImage}
 use Rattle.machine.specs.Machine.{Machine}
-use Rattle.machine.specs.Formed.{sized, wellFormed}
+use Rattle.machine.specs.Formed.{sized, formed, wellFormed}
+use Rattle.machine.specs.Fresh.{freshMachine}
+use Rattle.machine.proofs.FreshLaws.{fresh-formed}
 use Rattle.format.specs.Format.{accepts}
 use Rattle.image.specs.declared.LoadAnswer.{LoadAnswer}
 use Rattle.image.specs.declared.LoadAnswer.the-variants.{Taken, NotLoaded}
@@ -23,6 +27,7 @@ use Rattle.records.specs.declared.replay_script.ReplayRead.{ReplayRead}
 use Rattle.records.specs.declared.replay_script.ReplayRead.the-variants.{Whole, Faulty}
 use Rattle.records.specs.Counts.{streamsOf}
 use Rattle.records.specs.ReplayScript.{replayScriptOf}
+use Rattle.records.proofs.Sound.{whole-facts}
 use Rattle.report.specs.Words.{badRecordWord, badImageWord}
 use Rattle.report.specs.Lines.{numberLine}
 use Rattle.telling.specs.Told.{toldOf}
@@ -33,6 +38,21 @@ pub named-run : (tail : List ℕ) (m : Machine) (s : ReplayScript) (w : Streams)
     summaryOf (runOf w m (s .cursor) (s .budget)) ≡ replayRun tail m s
 unfolding replayRun
 named-run tail m s w e = rw e
+
+-- streams of the most words have room for a script's
+pub record Fits (s : ReplayScript) : Type 0 where
+  pub few0 : (w : List ℕ) → length w ≡ 65536 → s .counts .n0 ≤ length w
+  pub few1 : (w : List ℕ) → length w ≡ 65536 → s .counts .n1 ≤ length w
+  pub few2 : (w : List ℕ) → length w ≡ 65536 → s .counts .n2 ≤ length w
+
+pub whole-fits : (tail : List ℕ) (s : ReplayScript) → replayScriptOf tail ≡ Whole s → Fits s
+whole-fits tail s e =
+    let f = whole-facts tail s e in
+    record {
+      few0 = λ w h. omega (arith, f .few0);
+      few1 = λ w h. omega (arith, f .few1);
+      few2 = λ w h. omega (arith, f .few2);
+    }
 
 module _ (came tail : List ℕ) (m : Machine) (r : ReplayRead) (e : r ≡ replayScriptOf tail) where
   by-read : byRecords came tail m r ≡ recordsOf came tail m
@@ -50,29 +70,32 @@ bad-means : (fine : Bool) (g : ℕ) (r : Refusal) → cond fine Taken (NotLoaded
 bad-means true g r e = let z : _≡_ {A = ℕ} 0 1 = cc in absurd (omega arith)
 bad-means false g r e = (refl, cc)
 
-module _ (came tail : List ℕ) (old : Machine) (a : LoadAnswer) (m : Machine) (e : loading a m ≡ loadOf came old) where
-  answered : a ≡ loadAnswer (sized old) came
+fresh-sized : sized freshMachine ≡ true
+fresh-sized = and-left (sized freshMachine) (formed freshMachine) fresh-formed
+
+module _ (came tail : List ℕ) (a : LoadAnswer) (m : Machine) (e : loading a m ≡ loadOf came freshMachine) where
+  answered : a ≡ loadAnswer (sized freshMachine) came
   unfolding loadOf
   answered = ap (λ (x : Loading). x .answer) e
 
-  pub parts-bad : (r : Refusal) → sized old ≡ true → a ≡ NotLoaded r → numberLine badImageWord (offsetOf r) ≡ partsOf came tail
+  pub parts-bad : (r : Refusal) → a ≡ NotLoaded r → numberLine badImageWord (offsetOf r) ≡ partsOf came tail
   unfolding partsOf imageFine imageGood loadAnswer
-  parts-bad r s h =
-      let told : loadAnswer true came ≡ NotLoaded r = ap (λ (b : Bool). loadAnswer b came) (sym s) ∙ sym answered ∙ h in
+  parts-bad r h =
+      let told : loadAnswer true came ≡ NotLoaded r = ap (λ (b : Bool). loadAnswer b came) (sym fresh-sized) ∙ sym answered ∙ h in
       let b = bad-means (accepts image came) (image .good came) r told in
       rw (b .0, b .1)
 
   taken : a ≡ Taken → m ≡ image .get came
   unfolding loadOf
-  taken h = ap (λ (x : Loading). x .machine) e ∙ ap (λ (x : LoadAnswer). machineAfter x came old) (sym answered ∙ h)
+  taken h = ap (λ (x : Loading). x .machine) e ∙ ap (λ (x : LoadAnswer). machineAfter x came freshMachine) (sym answered ∙ h)
 
   pub parts-taken : a ≡ Taken → recordsOf came tail m ≡ partsOf came tail
   unfolding partsOf imageFine imageMachine
   parts-taken h =
-      let fine = taken-means (sized old) came (sym answered ∙ h) .1 in
+      let fine = taken-means (sized freshMachine) came (sym answered ∙ h) .1 in
       rw fine (ap (λ (x : Machine). recordsOf came tail x) (taken h))
 
   pub loaded-formed : a ≡ Taken → Bytes came → wellFormed m ≡ true
   loaded-formed h b =
       ap (λ (x : Loading). wellFormed (x .machine)) e
-      ∙ round-trips .formed came old b (sym (ap (λ (x : Loading). x .answer) e) ∙ h)
+      ∙ round-trips .formed came freshMachine b (sym (ap (λ (x : Loading). x .answer) e) ∙ h)

@@ -1,7 +1,6 @@
 -- Inputs longer than what the program reads.
 use Prim.Native.Nat.{ℕ}
-use mathlib.Core.Path.{_≡_, refl, ap}
-use mathlib.Core.Bool.{cond}
+use mathlib.Core.Path.{_≡_, refl}
 use mathlib.Core.List.{List, _++_}
 use native.Mathlib.Omega.{arith}
 use lib.ListN.{length, take, drop, length-drop}
@@ -12,7 +11,7 @@ use Rattle.records.specs.declared.replay_script.ReplayRead.{ReplayRead}
 use Rattle.records.specs.declared.replay_script.ReplayRead.the-variants.{Whole, Faulty}
 use Rattle.records.specs.ReplayScript.{replayScriptOf}
 use Rattle.records.proofs.Longer.{Unsound, replay-longer}
-use Rattle.replaying.specs.Replay.{imageMachine, imageGood, imageFine, byRecords, recordsOf, partsOf, replayOf, LongInputs}
+use Rattle.replaying.specs.Replay.{imageMachine, byRecords, recordsOf, partsOf, replayOf, LongInputs}
 
 told-alike : (came t u : List ℕ) (m : Machine) (r : ReplayRead) → Unsound r → byRecords came t m r ≡ byRecords came u m r
 told-alike came t u m (Whole s) h = absurd h

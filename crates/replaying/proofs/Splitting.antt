@@ -1,4 +1,4 @@
--- An input cut into its image and what follows, and the machine that it is loaded into.
+-- An input cut into its image and what follows, and the sizes of a machine by value.
 use Prim.Native.Nat.{ℕ, _-_, _≤_, _<_}
 use mathlib.Core.Path.{_≡_, sym, _∙_}
 use mathlib.Core.Bool.{true}
@@ -34,5 +34,5 @@ whole-parts bs n s =
     let few : length (drop n bs) ≤ length bs - n = omega arith in
     rw (take-all (length bs - n) (drop n bs) few, s .image, s .rest)
 
-pub fresh-facts : (f : WholeMachine) → wellFormed (machineOf f) ≡ true → SizedFacts (machineOf f .settings) (machineOf f .kept)
-fresh-facts f h = sized-facts (machineOf f) (and-left (sized (machineOf f)) (formed (machineOf f)) h)
+pub sized-whole : (f : WholeMachine) → wellFormed (machineOf f) ≡ true → SizedFacts (machineOf f .settings) (machineOf f .kept)
+sized-whole f h = sized-facts (machineOf f) (and-left (sized (machineOf f)) (formed (machineOf f)) h)

@@ -1,149 +1,132 @@
-// From the image and the records that came to what is printed, in a machine and streams that are lent.
+// From the image and the records that came to what is printed.
 ghost use mathlib.Core.Path.{_≡_};
 ghost use mathlib.Core.Bool.{true};
 ghost use Prim.Native.Nat.{_+_, _≤_};
 ghost use lib.ListN.{length};
 ghost use Rattle.bits.specs.Overwrite.{Wrote};
-ghost use Rattle.machine.specs.Machine.{machine, stores};
-ghost use Rattle.machine.specs.Formed.{sized, wellFormed};
+ghost use Rattle.machine.specs.Formed.{wellFormed};
+ghost use Rattle.machine.specs.Fresh.{machineOf};
 ghost use Rattle.turns.specs.Streams.{streams};
 ghost use Rattle.run_rules.specs.Run.{runOf, summaryOf};
 ghost use Rattle.records.specs.declared.replay_script.ReplayRead.the-variants.{Whole};
 ghost use Rattle.records.specs.ReplayScript.{replayScriptOf};
 ghost use Rattle.telling.specs.Told.{toldOf};
 ghost use Rattle.replaying.specs.Replay.{offsetOf, replayRun, recordsOf, partsOf};
+use crate::by_value::load_whole;
+use crate::by_value::put_told_whole;
+use crate::by_value::run_whole;
 use image::LoadAnswer;
-use machine::control::Control;
+use machine::fresh::WholeMachine;
 use machine::refusal::Refusal;
-use records::counts::Counts;
+use machine::sizes::STREAM_WORDS;
 use records::replay_script::ReplayRead;
 use records::replay_script::ReplayScript;
 use telling::IMAGE_BYTES;
-use turns::cursor::Cursor;
 
 // Runs a machine and tells of it. Internal: the machine is well formed, and there is room.
 fn run_told(
     came: &[u8],
-    counts: Counts,
-    cursor: Cursor,
-    budget: u32,
-    control: Control,
-    settings: &mut [u16],
-    gprs: &mut [u32],
-    config: &mut [u32],
-    dest: &[u16],
-    marks: &mut [bool],
-    src_a: &mut [u32],
-    src_b: &mut [u32],
+    script: ReplayScript,
+    m: WholeMachine,
     s0: &[u32],
     s1: &[u32],
     s2: &[u32],
     out: &mut [u8],
 ) -> usize
-    requires { ⌜ (wellFormed (machine control (now settings) (stores (now gprs) (now config) (now dest) (now marks) (now «src_a») (now «src_b»))) ≡ true) × (49000 ≤ length (now out)) × (length (now came) ≤ 48473) ⌝ }
-    ensures { λ r. ⌜ Wrote (now (out .entry)) 0 (toldOf (now (came .entry)) (summaryOf (runOf (streams (now (s0 .entry)) (now (s1 .entry)) (now (s2 .entry))) (machine control (now (settings .entry)) (stores (now (gprs .entry)) (now (config .entry)) (now (dest .entry)) (now (marks .entry)) (now («src_a» .entry)) (now («src_b» .entry)))) cursor budget)) counts) (now (out .exit)) r ⌝ }
+    requires { ⌜ (wellFormed (machineOf m) ≡ true) × (49000 ≤ length (now out)) × (length (now came) ≤ 48473) ⌝ }
+    ensures { λ r. ⌜ Wrote (now (out .entry)) 0 (toldOf (now (came .entry)) (summaryOf (runOf (streams (now (s0 .entry)) (now (s1 .entry)) (now (s2 .entry))) (machineOf m) (script .cursor) (script .budget))) (script .counts)) (now (out .exit)) r ⌝ }
 {
-    let ran = run::run(
-        control,
-        settings,
-        gprs,
-        config,
-        dest,
-        marks,
-        src_a,
-        src_b,
-        s0,
-        s1,
-        s2,
-        cursor,
-        budget,
-    );
-    let answer = ran.answer;
-    let end = ran.cursor;
-    let after = ran.control;
-    telling::put_told(
-        out,
-        came,
-        answer,
-        ran.turns,
-        end,
-        counts,
-        after,
-        &settings[..],
-        &gprs[..],
-        &config[..],
-        dest,
-        &marks[..],
-        &src_a[..],
-        &src_b[..],
-    )
+    let ran = run_whole(m, s0, s1, s2, script.cursor, script.budget);
+    put_told_whole(out, came, ran, script.counts)
 }
 
 // Reads the streams, runs the machine and tells of it. Internal: the script is the records', each stream is as long as its
 // words, the machine is well formed, and there is room.
+fn run_streams(
+    came: &[u8],
+    tail: &[u8],
+    script: ReplayScript,
+    m: WholeMachine,
+    s0: &mut [u32],
+    s1: &mut [u32],
+    s2: &mut [u32],
+    out: &mut [u8],
+) -> usize
+    requires { ⌜ (wellFormed (machineOf m) ≡ true) × (49000 ≤ length (now out)) × (length (now came) ≤ 48473) × (replayScriptOf (now tail) ≡ Whole script) × (length (now s0) ≡ script .counts .n0) × (length (now s1) ≡ script .counts .n1) × (length (now s2) ≡ script .counts .n2) ⌝ }
+    ensures { λ r. ⌜ Wrote (now (out .entry)) 0 (toldOf (now (came .entry)) (replayRun (now (tail .entry)) (machineOf m) script) (script .counts)) (now (out .exit)) r ⌝ }
+{
+    records::words::read_streams(tail, script.counts, s0, s1, s2);
+    run_told(came, script, m, &s0[..], &s1[..], &s2[..], out)
+}
+
+// The same, in as much of longer streams as each thread has words. Internal: they hold the most words.
 fn run_script(
     came: &[u8],
     tail: &[u8],
     script: ReplayScript,
-    control: Control,
-    settings: &mut [u16],
-    gprs: &mut [u32],
-    config: &mut [u32],
-    dest: &[u16],
-    marks: &mut [bool],
-    src_a: &mut [u32],
-    src_b: &mut [u32],
+    m: WholeMachine,
     s0: &mut [u32],
     s1: &mut [u32],
     s2: &mut [u32],
     out: &mut [u8],
 ) -> usize
-    requires { ⌜ (wellFormed (machine control (now settings) (stores (now gprs) (now config) (now dest) (now marks) (now «src_a») (now «src_b»))) ≡ true) × (49000 ≤ length (now out)) × (length (now came) ≤ 48473) × (replayScriptOf (now tail) ≡ Whole script) × (length (now s0) ≡ script .counts .n0) × (length (now s1) ≡ script .counts .n1) × (length (now s2) ≡ script .counts .n2) ⌝ }
-    ensures { λ r. ⌜ Wrote (now (out .entry)) 0 (toldOf (now (came .entry)) (replayRun (now (tail .entry)) (machine control (now (settings .entry)) (stores (now (gprs .entry)) (now (config .entry)) (now (dest .entry)) (now (marks .entry)) (now («src_a» .entry)) (now («src_b» .entry)))) script) (script .counts)) (now (out .exit)) r ⌝ }
+    requires { ⌜ (wellFormed (machineOf m) ≡ true) × (49000 ≤ length (now out)) × (length (now came) ≤ 48473) × (replayScriptOf (now tail) ≡ Whole script) × (length (now s0) ≡ 65536) × (length (now s1) ≡ 65536) × (length (now s2) ≡ 65536) ⌝ }
+    ensures { λ r. ⌜ Wrote (now (out .entry)) 0 (toldOf (now (came .entry)) (replayRun (now (tail .entry)) (machineOf m) script) (script .counts)) (now (out .exit)) r ⌝ }
 {
     let counts = script.counts;
-    let cursor = script.cursor;
-    records::words::read_streams(tail, counts, s0, s1, s2);
-    run_told(
+    let n0 = counts.n0;
+    let n1 = counts.n1;
+    let n2 = counts.n2;
+    run_streams(
         came,
-        counts,
-        cursor,
-        script.budget,
-        control,
-        settings,
-        gprs,
-        config,
-        dest,
-        marks,
-        src_a,
-        src_b,
-        &s0[..],
-        &s1[..],
-        &s2[..],
+        tail,
+        script,
+        m,
+        &mut s0[..n0],
+        &mut s1[..n1],
+        &mut s2[..n2],
         out,
     )
 }
 
-// What is told of the records, for the machine of an image. Internal: the machine is well formed, the streams hold the most
-// words, and there is room.
-fn replay_records(
+// The same, in streams that are lent whole.
+fn run_lent(
     came: &[u8],
     tail: &[u8],
-    control: Control,
-    settings: &mut [u16],
-    gprs: &mut [u32],
-    config: &mut [u32],
-    dest: &[u16],
-    marks: &mut [bool],
-    src_a: &mut [u32],
-    src_b: &mut [u32],
-    s0: &mut [u32],
-    s1: &mut [u32],
-    s2: &mut [u32],
+    script: ReplayScript,
+    m: WholeMachine,
+    s0: &mut [u32; STREAM_WORDS],
+    s1: &mut [u32; STREAM_WORDS],
+    s2: &mut [u32; STREAM_WORDS],
     out: &mut [u8],
 ) -> usize
-    requires { ⌜ (wellFormed (machine control (now settings) (stores (now gprs) (now config) (now dest) (now marks) (now «src_a») (now «src_b»))) ≡ true) × (49000 ≤ length (now out)) × (length (now came) ≤ 48473) × (length (now s0) ≡ 65536) × (length (now s1) ≡ 65536) × (length (now s2) ≡ 65536) ⌝ }
-    ensures { λ r. ⌜ Wrote (now (out .entry)) 0 (recordsOf (now (came .entry)) (now (tail .entry)) (machine control (now (settings .entry)) (stores (now (gprs .entry)) (now (config .entry)) (now (dest .entry)) (now (marks .entry)) (now («src_a» .entry)) (now («src_b» .entry))))) (now (out .exit)) r ⌝ }
+    requires { ⌜ (wellFormed (machineOf m) ≡ true) × (49000 ≤ length (now out)) × (length (now came) ≤ 48473) × (replayScriptOf (now tail) ≡ Whole script) ⌝ }
+    ensures { λ r. ⌜ Wrote (now (out .entry)) 0 (toldOf (now (came .entry)) (replayRun (now (tail .entry)) (machineOf m) script) (script .counts)) (now (out .exit)) r ⌝ }
+{
+    run_script(came, tail, script, m, s0, s1, s2, out)
+}
+
+// The same, in streams of its own.
+fn run_alone(
+    came: &[u8],
+    tail: &[u8],
+    script: ReplayScript,
+    m: WholeMachine,
+    out: &mut [u8],
+) -> usize
+    requires { ⌜ (wellFormed (machineOf m) ≡ true) × (49000 ≤ length (now out)) × (length (now came) ≤ 48473) × (replayScriptOf (now tail) ≡ Whole script) ⌝ }
+    ensures { λ r. ⌜ Wrote (now (out .entry)) 0 (toldOf (now (came .entry)) (replayRun (now (tail .entry)) (machineOf m) script) (script .counts)) (now (out .exit)) r ⌝ }
+{
+    let mut s0 = [0u32; STREAM_WORDS];
+    let mut s1 = [0u32; STREAM_WORDS];
+    let mut s2 = [0u32; STREAM_WORDS];
+    run_lent(came, tail, script, m, &mut s0, &mut s1, &mut s2, out)
+}
+
+// What is told of the records, for the machine of an image. Internal: the machine is well formed, and there is room.
+fn replay_records(came: &[u8], tail: &[u8], m: WholeMachine, out: &mut [u8]) -> usize
+    requires { ⌜ (wellFormed (machineOf m) ≡ true) × (49000 ≤ length (now out)) × (length (now came) ≤ 48473) ⌝ }
+    ensures { λ r. ⌜ Wrote (now (out .entry)) 0 (recordsOf (now (came .entry)) (now (tail .entry)) (machineOf m)) (now (out .exit)) r ⌝ }
 {
     let read = records::replay_script::read_replay_script(tail);
     match read {
@@ -153,29 +136,7 @@ fn replay_records(
             b"bad record at ",
             IMAGE_BYTES + at,
         ),
-        ReplayRead::Whole(script) => {
-            let counts = script.counts;
-            let n0 = counts.n0;
-            let n1 = counts.n1;
-            let n2 = counts.n2;
-            run_script(
-                came,
-                tail,
-                script,
-                control,
-                settings,
-                gprs,
-                config,
-                dest,
-                marks,
-                src_a,
-                src_b,
-                &mut s0[..n0],
-                &mut s1[..n1],
-                &mut s2[..n2],
-                out,
-            )
-        }
+        ReplayRead::Whole(script) => run_alone(came, tail, script, m, out),
     }
 }
 
@@ -199,39 +160,12 @@ fn bad_offset(r: Refusal) -> usize
     }
 }
 
-// What is printed for an image and the records after it. Internal: what is lent of the machine has its sizes, the streams
-// hold the most words, the image is no longer than an image, and there is room. What the machine and the streams hold
-// afterwards is free.
-pub fn replay_parts(
-    came: &[u8],
-    tail: &[u8],
-    control: Control,
-    settings: &mut [u16],
-    gprs: &mut [u32],
-    config: &mut [u32],
-    dest: &mut [u16],
-    marks: &mut [bool],
-    src_a: &mut [u32],
-    src_b: &mut [u32],
-    s0: &mut [u32],
-    s1: &mut [u32],
-    s2: &mut [u32],
-    out: &mut [u8],
-) -> usize
-    requires { ⌜ (sized (machine control (now settings) (stores (now gprs) (now config) (now dest) (now marks) (now «src_a») (now «src_b»))) ≡ true) × (49000 ≤ length (now out)) × (length (now came) ≤ 48473) × (length (now s0) ≡ 65536) × (length (now s1) ≡ 65536) × (length (now s2) ≡ 65536) ⌝ }
+// What is printed for an image and the records after it. Internal: the image is no longer than an image, and there is room.
+pub fn replay_parts(came: &[u8], tail: &[u8], out: &mut [u8]) -> usize
+    requires { ⌜ (49000 ≤ length (now out)) × (length (now came) ≤ 48473) ⌝ }
     ensures { λ r. ⌜ Wrote (now (out .entry)) 0 (partsOf (now (came .entry)) (now (tail .entry))) (now (out .exit)) r ⌝ }
 {
-    let loaded = image::load(
-        came,
-        control,
-        settings,
-        gprs,
-        config,
-        dest,
-        marks,
-        src_a,
-        src_b,
-    );
+    let loaded = load_whole(came);
     let answer = loaded.answer;
     match answer {
         LoadAnswer::NotLoaded(r) => report::put_number_line(
@@ -241,23 +175,8 @@ pub fn replay_parts(
             bad_offset(r),
         ),
         LoadAnswer::Taken => {
-            let taken = loaded.control;
-            replay_records(
-                came,
-                tail,
-                taken,
-                settings,
-                gprs,
-                config,
-                &dest[..],
-                marks,
-                src_a,
-                src_b,
-                s0,
-                s1,
-                s2,
-                out,
-            )
+            let m = loaded.machine;
+            replay_records(came, tail, m, out)
         }
     }
 }

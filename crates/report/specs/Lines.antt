@@ -6,7 +6,7 @@ use Rattle.turns.specs.declared.cursor.Cursor.{Cursor}
 use Rattle.turns.specs.declared.ending.Ending.{Ending}
 use Rattle.turns.specs.declared.ending.Ending.the-variants.{Finished, Stuck, BudgetUsed, WordRefused, CallRefused}
 use Rattle.text.specs.Decimal.{decimal}
-use Rattle.report.specs.Words.{endWord, finishedWord, stuckWord, budgetWord, refusedWord, rejectedWord, turnsWord, nextWord, badRecordWord, badImageWord}
+use Rattle.report.specs.Words.{endWord, finishedWord, stuckWord, budgetWord, refusedWord, rejectedWord, turnsWord}
 
 abbrev pub lineEnd : List ℕ
 lineEnd = 10 ∷ []

@@ -61,7 +61,9 @@ pub fn take_turns(
             c,
         );
         let o = t.outcome;
-        k = t.control;
+        let change = t.change;
+        let thread = c.next as usize;
+        k = control::after::changed(k, thread, change);
         c = t.cursor;
         turns += 1;
         let e = refused_word(o);

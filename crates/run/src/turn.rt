@@ -1,9 +1,11 @@
 // One turn.
 ghost use mathlib.Core.Path.{_≡_};
 ghost use Rattle.machine.specs.Machine.{machine, stores};
+ghost use Rattle.control.specs.Changes.{changedBy, ChangeFits};
 ghost use Rattle.turns.specs.Streams.{streams};
 ghost use Rattle.run_rules.specs.Turn.{turned, turnOf};
 ghost use Rattle.run_rules.specs.Ready.{Ready};
+use control::after::Change;
 use machine::control::Control;
 use machine::refusal::Outcome;
 use turns::cursor::Cursor;
@@ -12,10 +14,10 @@ use turns::cursor::onward;
 use turns::streams::Offered;
 use turns::streams::next_word;
 
-// What came of a turn, and the control part and cursor after it.
+// What came of a turn, what it changes in the control part, and the cursor after it.
 pub struct Turned {
     pub outcome: Outcome,
-    pub control: Control,
+    pub change: Change,
     pub cursor: Cursor,
 }
 
@@ -35,13 +37,13 @@ pub fn turn(
     c: Cursor,
 ) -> Turned
     requires { ⌜ Ready (streams (now s0) (now s1) (now s2)) (machine control (now settings) (stores (now gprs) (now config) (now dest) (now marks) (now «src_a») (now «src_b»))) c ⌝ }
-    ensures { λ r. ⌜ turned (r .outcome) (machine (r .control) (now (settings .exit)) (stores (now (gprs .exit)) (now (config .exit)) (now (dest .entry)) (now (marks .exit)) (now («src_a» .exit)) (now («src_b» .exit)))) (r .cursor) ≡ turnOf (streams (now (s0 .entry)) (now (s1 .entry)) (now (s2 .entry))) (machine control (now (settings .entry)) (stores (now (gprs .entry)) (now (config .entry)) (now (dest .entry)) (now (marks .entry)) (now («src_a» .entry)) (now («src_b» .entry)))) c ⌝ }
+    ensures { λ r. ⌜ (turned (r .outcome) (machine (changedBy control (c .next) (r .change)) (now (settings .exit)) (stores (now (gprs .exit)) (now (config .exit)) (now (dest .entry)) (now (marks .exit)) (now («src_a» .exit)) (now («src_b» .exit)))) (r .cursor) ≡ turnOf (streams (now (s0 .entry)) (now (s1 .entry)) (now (s2 .entry))) (machine control (now (settings .entry)) (stores (now (gprs .entry)) (now (config .entry)) (now (dest .entry)) (now (marks .entry)) (now («src_a» .entry)) (now («src_b» .entry)))) c) × ChangeFits (r .change) ⌝ }
 {
     let w = next_word(s0, s1, s2, c);
     match w {
         Offered::NoWord => Turned {
             outcome: Outcome::Idle,
-            control,
+            change: Change::Kept,
             cursor: onward(c),
         },
         Offered::NextWord(word) => {
@@ -59,10 +61,10 @@ pub fn turn(
                 word,
             );
             let outcome = x.outcome;
-            let after = x.control;
+            let change = x.change;
             Turned {
                 outcome,
-                control: after,
+                change,
                 cursor: moved(outcome, c),
             }
         }

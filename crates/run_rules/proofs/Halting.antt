@@ -9,12 +9,11 @@ use Rattle.machine.specs.Machine.{Machine}
 use Rattle.turns.specs.declared.cursor.Cursor.{Cursor}
 use Rattle.turns.specs.declared.ending.Ending.{Ending}
 use Rattle.turns.specs.declared.ending.Ending.the-variants.{Finished, Stuck, BudgetUsed}
-use Rattle.turns.specs.declared.ending.Halt.{Halt}
 use Rattle.turns.specs.declared.ending.Halt.the-variants.{Ends, GoesOn}
 use Rattle.turns.specs.Streams.{Streams, usedUp}
-use Rattle.run_rules.specs.Turn.{Turn, turnOf}
+use Rattle.run_rules.specs.Turn.{turnOf}
 use Rattle.turns.specs.Ending.{haltOf, refusedWord, quietAfter}
-use Rattle.run_rules.specs.Run.{Run, stop, before, unless, runFrom}
+use Rattle.run_rules.specs.Run.{Run, stop, before, runFrom}
 
 -- what is so before a turn that is taken
 pub record TurnDue (s : Streams) (c : Cursor) (quiet left : ℕ) : Type 0 where

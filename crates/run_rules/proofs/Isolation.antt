@@ -1,8 +1,8 @@
 -- Condition 3, by induction on the budget: two turns from machines that agree are alike, whatever the stores hold.
 use Prim.Native.Nat.{ℕ, zero, suc}
-use mathlib.Core.Path.{_≡_, refl, sym, ap, _∙_}
+use mathlib.Core.Path.{_≡_, refl, ap}
 use mathlib.Core.Bool.{true}
-use mathlib.Core.List.{List, Forall₂, Forall₂·nil, Forall₂·cons}
+use mathlib.Core.List.{Forall₂, Forall₂·nil, Forall₂·cons}
 use Rattle.bits.proofs.Choices.{and-left, and-right}
 use Rattle.machine.specs.declared.refusal.Outcome.{Outcome}
 use Rattle.machine.specs.Machine.{Machine}

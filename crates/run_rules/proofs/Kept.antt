@@ -19,7 +19,7 @@ use Rattle.turns.specs.declared.streams.Offered.{Offered}
 use Rattle.turns.specs.declared.streams.Offered.the-variants.{NextWord, NoWord}
 use Rattle.turns.specs.Streams.{Streams, usedUp, nextWord}
 use Rattle.turns.specs.Cursor.{onwardOf, movedOf}
-use Rattle.run_rules.specs.Turn.{Turn, byWord, turnOf}
+use Rattle.run_rules.specs.Turn.{byWord, turnOf}
 use Rattle.turns.specs.Ending.{haltOf, refusedWord, quietAfter}
 use Rattle.run_rules.specs.Checks.{callCheck}
 use Rattle.run_rules.specs.Ready.{Ready}

@@ -1,7 +1,7 @@
 -- Where a run ends stuck, no thread's word can pass: the last three turns, one a thread, were idle or stalled on the very machine
 -- that is left.
 use Prim.Native.Nat.{ℕ, zero, suc, _+_, _≤_, _<_}
-use mathlib.Core.Path.{_≡_, refl, sym, ap, _∙_}
+use mathlib.Core.Path.{_≡_, refl, ap}
 use mathlib.Core.Bool.{Bool, true, false, cond, _&&_}
 use native.Mathlib.Numerals.{add-one}
 use native.Mathlib.Omega.{arith}
@@ -20,15 +20,15 @@ use Rattle.turns.specs.declared.ending.Halt.{Halt}
 use Rattle.turns.specs.declared.ending.Halt.the-variants.{Ends, GoesOn}
 use Rattle.turns.specs.Streams.{Streams, usedUp}
 use Rattle.turns.specs.Cursor.{onwardOf}
-use Rattle.run_rules.specs.Turn.{Turn, turnOf}
+use Rattle.run_rules.specs.Turn.{turnOf}
 use Rattle.turns.specs.Ending.{haltOf, refusedWord, quietAfter}
 use Rattle.run_rules.specs.Checks.{streamsSized, placed, needed, callCheck}
 use Rattle.run_rules.specs.Run.{Run, stop, unless, runFrom, runOf}
 use Rattle.run_rules.specs.Ready.{Ready}
 use Rattle.run_rules.specs.StuckForGood.{waiting}
 use Rattle.run_rules.proofs.Calls.{call-ready}
-use Rattle.run_rules.proofs.Turning.{onward-within, turn-ready}
-use Rattle.run_rules.proofs.Waiting.{onward-round, Waits, waited, turn-waits, turn-moves}
+use Rattle.run_rules.proofs.Turning.{turn-ready}
+use Rattle.run_rules.proofs.Waiting.{onward-round, Waits, turn-waits, turn-moves}
 
 pub record Settled (s : Streams) (m : Machine) (c : Cursor) : Type 0 where
   pub ready : Ready s m c

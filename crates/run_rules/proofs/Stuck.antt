@@ -1,27 +1,26 @@
 -- From where no thread's word can pass, a run takes three turns at most, and each is idle or stalled and changes nothing.
 use Prim.Native.Nat.{ℕ, zero, suc, _+_, _-_, _≤_, _<_}
-use mathlib.Core.Path.{_≡_, refl, sym, ap, _∙_, subst}
+use mathlib.Core.Path.{_≡_, refl, sym, ap, _∙_}
 use mathlib.Core.Bool.{Bool, true, false, cond}
 use mathlib.Core.Logic.{_⊎_, inl, inr, ⊎-elim}
-use mathlib.Core.List.{List, [], _∷_, List·Memᴰ, List·Memᴰ·not-nil, List·Memᴰ·cases-cons}
+use mathlib.Core.List.{List, _∷_, List·Memᴰ, List·Memᴰ·not-nil, List·Memᴰ·cases-cons}
 use native.Mathlib.Nat.{zero-add}
 use native.Mathlib.Numerals.{add-one}
 use native.Mathlib.Omega.{arith}
 use lib.Dec.{leb, ltb, eqb, eqb·suc-zero}
 use lib.ListN.{length}
 use borrow.Author.Tests.{lt-ltb, le-ltb, le-leb, lt-leb, leb-true, leb-false}
-use Rattle.machine.specs.Sizes.{budgetMost}
 use Rattle.machine.specs.Machine.{Machine}
 use Rattle.turns.specs.declared.cursor.Cursor.{Cursor}
 use Rattle.turns.specs.declared.ending.Ending.{Ending}
 use Rattle.turns.specs.declared.ending.Ending.the-variants.{Stuck, BudgetUsed}
-use Rattle.turns.specs.declared.ending.Halt.the-variants.{Ends, GoesOn}
+use Rattle.turns.specs.declared.ending.Halt.the-variants.{GoesOn}
 use Rattle.turns.specs.Streams.{Streams, usedUp}
 use Rattle.turns.specs.Cursor.{onwardOf}
 use Rattle.run_rules.specs.Turn.{Turn, turnOf}
 use Rattle.turns.specs.Ending.{haltOf}
 use Rattle.run_rules.specs.Run.{Run, stop, before, runFrom, runOf}
-use Rattle.run_rules.specs.StuckForGood.{SamePositions, StillTurn, StaysStuck, StuckForGood}
+use Rattle.run_rules.specs.StuckForGood.{SamePositions, StillTurn, StuckForGood}
 use Rattle.run_rules.proofs.Halting.{run-halts, run-on}
 use Rattle.run_rules.proofs.Calls.{ready-call, call-runs}
 use Rattle.run_rules.proofs.Turning.{onward-within}

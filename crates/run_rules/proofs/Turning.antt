@@ -1,6 +1,6 @@
 -- One turn: what the code makes of it, and what it keeps.
-use Prim.Native.Nat.{ℕ, _+_, _≤_, _<_}
-use mathlib.Core.Path.{_≡_, refl, sym, ap}
+use Prim.Native.Nat.{ℕ, _+_, _<_}
+use mathlib.Core.Path.{_≡_, refl}
 use mathlib.Core.Bool.{Bool, true, false, cond}
 use mathlib.Core.List.{List}
 use native.Mathlib.Omega.{arith}
@@ -19,8 +19,8 @@ use Rattle.turns.specs.declared.streams.Offered.{Offered}
 use Rattle.turns.specs.declared.streams.Offered.the-variants.{NextWord, NoWord}
 use Rattle.turns.specs.Streams.{Streams, wordAt, nextWord}
 use Rattle.turns.specs.Cursor.{cursor, following, onwardOf, pastOf, movedOf}
-use Rattle.run_rules.specs.Turn.{Turn, turned, byWord, turnOf}
-use Rattle.run_rules.specs.Ready.{Lengths, Within, Ready}
+use Rattle.run_rules.specs.Turn.{turned, byWord, turnOf}
+use Rattle.run_rules.specs.Ready.{Within, Ready}
 
 module _ (s : Streams) (m : Machine) (c k : Cursor) (o : Offered) (eo : o ≡ nextWord s c) where
   pub turn-idle : o ≡ NoWord → k ≡ onwardOf c → turned Idle m k ≡ turnOf s m c

@@ -15,7 +15,7 @@ use Rattle.turns.specs.declared.streams.Offered.the-variants.{NextWord, NoWord}
 use Rattle.turns.specs.declared.ending.Halt.the-variants.{GoesOn}
 use Rattle.turns.specs.Streams.{Streams, nextWord}
 use Rattle.turns.specs.Cursor.{cursor, following, onwardOf, movedOf}
-use Rattle.run_rules.specs.Turn.{Turn, byWord, turnOf}
+use Rattle.run_rules.specs.Turn.{byWord, turnOf}
 use Rattle.turns.specs.Ending.{refusedWord, quietAfter}
 use Rattle.run_rules.specs.StuckForGood.{waiting}
 

@@ -1,14 +1,15 @@
 // A case: its machine, its run, and its line.
 ghost use Prim.Native.Nat.{_+_, _≤_, _<_};
 ghost use lib.ListN.{length};
-use crate::faults::lent_length;
-use crate::faults::set_cell;
-use crate::faults::set_control;
+use crate::control::set_control;
 use crate::input::CASE_BYTES;
 use crate::input::cursor_at;
 use crate::input::take_stream;
 use crate::input::word_at;
 use crate::lines::write_line;
+use faults::Short;
+use faults::lent_length;
+use faults::set_cell;
 use machine::control::Control;
 use machine::sizes::CONFIG_WORDS;
 use machine::sizes::DEST_CELLS;
@@ -16,20 +17,22 @@ use machine::sizes::DEST_ROWS;
 use machine::sizes::GPRS;
 use machine::sizes::SETTINGS;
 use machine::sizes::SOURCE_CELLS;
+use run::Ran;
+use seeded::controls::draw_control;
 use seeded::digest::digest;
 use seeded::whole::fill_machine;
 use turns::cursor::Cursor;
 
-// What a case says beside its streams: the seed, what is lent wrongly, what is set in the machine, the budget, the cursor.
+// What a case says beside its streams: the seed, what is lent too short, what is set in the machine, the budget, the cursor.
 pub struct Case {
     pub seed: u32,
-    pub lent: u32,
+    pub short: Short,
     pub set: u32,
     pub budget: u32,
     pub cursor: Cursor,
 }
 
-// The run and the line. A part may be lent too short; the digest is always of the whole machine.
+// The run on the machine, of which a part may be lent too short.
 fn run_lent(
     case: Case,
     control: Control,
@@ -43,17 +46,17 @@ fn run_lent(
     s0: &[u32],
     s1: &[u32],
     s2: &[u32],
-) {
-    let lent = case.lent;
+) -> Ran {
+    let short = case.short;
     let cursor = case.cursor;
-    let n1 = lent_length(lent, 1, settings.len());
-    let n2 = lent_length(lent, 2, gprs.len());
-    let n3 = lent_length(lent, 3, config.len());
-    let n4 = lent_length(lent, 4, dest.len());
-    let n5 = lent_length(lent, 5, marks.len());
-    let n6 = lent_length(lent, 6, src_a.len());
-    let n7 = lent_length(lent, 7, src_b.len());
-    let ran = run::run(
+    let n1 = lent_length(short, 1, settings.len());
+    let n2 = lent_length(short, 2, gprs.len());
+    let n3 = lent_length(short, 3, config.len());
+    let n4 = lent_length(short, 4, dest.len());
+    let n5 = lent_length(short, 5, marks.len());
+    let n6 = lent_length(short, 6, src_a.len());
+    let n7 = lent_length(short, 7, src_b.len());
+    run::run(
         control,
         &mut settings[..n1],
         &mut gprs[..n2],
@@ -67,16 +70,55 @@ fn run_lent(
         s2,
         cursor,
         case.budget,
-    );
-    let after = ran.control;
-    let answer = ran.answer;
-    let place = ran.cursor;
-    let sum = digest(after, settings, gprs, config, dest, marks, src_a, src_b);
-    write_line(answer, ran.turns, place, sum);
+    )
 }
 
-// The run on the machine of the case.
+// The run and the line. The digest is always of the whole machine.
+fn run_told(
+    case: Case,
+    control: Control,
+    settings: &mut [u16],
+    gprs: &mut [u32],
+    config: &mut [u32],
+    dest: &[u16],
+    marks: &mut [bool],
+    src_a: &mut [u32],
+    src_b: &mut [u32],
+    s0: &[u32],
+    s1: &[u32],
+    s2: &[u32],
+) {
+    let ran = run_lent(
+        case,
+        control,
+        settings,
+        gprs,
+        config,
+        dest,
+        marks,
+        src_a,
+        src_b,
+        s0,
+        s1,
+        s2,
+    );
+    let after = ran.control;
+    let sum = digest(after, settings, gprs, config, dest, marks, src_a, src_b);
+    write_line(ran, sum);
+}
+
+// The control part of the case's machine.
+fn control_of(case: Case) -> Control {
+    let drawn = draw_control(case.seed);
+    set_control(drawn.control, case.set)
+}
+
+// The run on the machine of the case. Its control part is made first: a proof writes out the type of a value that is not there
+// yet, at every step.
 fn run_machine(case: Case, s0: &[u32], s1: &[u32], s2: &[u32]) {
+    let control = control_of(case);
+    let which = case.set % 8;
+    let value = case.set / 8;
     let mut settings = [0; SETTINGS];
     let mut gprs = [0; GPRS];
     let mut config = [0; CONFIG_WORDS];
@@ -84,7 +126,7 @@ fn run_machine(case: Case, s0: &[u32], s1: &[u32], s2: &[u32]) {
     let mut marks = [false; DEST_ROWS];
     let mut src_a = [0; SOURCE_CELLS];
     let mut src_b = [0; SOURCE_CELLS];
-    let made = fill_machine(
+    fill_machine(
         case.seed,
         &mut settings,
         &mut gprs,
@@ -94,10 +136,9 @@ fn run_machine(case: Case, s0: &[u32], s1: &[u32], s2: &[u32]) {
         &mut src_a,
         &mut src_b,
     );
-    let control = set_control(made, case.set);
-    set_cell(&mut src_a, 2047, case.set, 6);
-    set_cell(&mut src_b, 0, case.set, 7);
-    run_lent(
+    set_cell(&mut src_a, 2047, which == 6, value);
+    set_cell(&mut src_b, 0, which == 7, value);
+    run_told(
         case,
         control,
         &mut settings,
@@ -113,18 +154,22 @@ fn run_machine(case: Case, s0: &[u32], s1: &[u32], s2: &[u32]) {
     );
 }
 
-// What a case at `at` says beside its streams. Internal: it is there.
+// What a case at `at` says beside its streams. What is lent is the number of the part that is too short + 8 x its length. Internal: it is there.
 fn case_at(input: &[u8], at: usize) -> Case
     requires { ⌜ at + 32 ≤ length (now input) ⌝ }
 {
     let seed = word_at(input, at);
     let lent = word_at(input, at + 4);
+    let short = Short {
+        part: lent % 8,
+        length: (lent / 8) as usize,
+    };
     let set = word_at(input, at + 8);
     let budget = word_at(input, at + 12);
     let cursor = cursor_at(input, at + 16);
     Case {
         seed,
-        lent,
+        short,
         set,
         budget,
         cursor,

@@ -1,6 +1,7 @@
 // The printed lines.
 use libc::STDOUT_FILENO;
 use machine::refusal::refusal_number;
+use run::Ran;
 use turns::cursor::Cursor;
 use turns::ending::Ending;
 
@@ -31,10 +32,12 @@ fn write_cursor(c: Cursor) {
 }
 
 // `END turns N at N N N next N machine D`.
-pub fn write_line(e: Ending, turns: u32, c: Cursor, digest: u32) {
-    write_ending(e);
-    write_number(b" turns ", turns as u64);
-    write_cursor(c);
+pub fn write_line(ran: Ran, digest: u32) {
+    let answer = ran.answer;
+    let cursor = ran.cursor;
+    write_ending(answer);
+    write_number(b" turns ", ran.turns as u64);
+    write_cursor(cursor);
     write_number(b" machine ", digest as u64);
     write_text(b"\n");
 }

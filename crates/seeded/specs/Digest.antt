@@ -1,6 +1,6 @@
 -- The digest of a whole machine: Adler-32 of every part, little-endian.
 use Prim.Native.Nat.{ℕ, _+_, _*_}
-use mathlib.Core.List.{List, [], _++_}
+use mathlib.Core.List.{List, _++_}
 use Rattle.bits.specs.Bytes.{enc}
 use Rattle.machine.specs.declared.control.Wait.{Wait}
 use Rattle.machine.specs.declared.control.Wait.the-variants.{Clear, OnStall, OnSemaphore}

@@ -1,80 +1,123 @@
 // Makes one call as often as a job says, so that benches/run can time it beside plain Rust of the same rules. Standard input is
-// jobs one after the other, each seven numbers of 4 bytes (kind, repetitions, seed, limit, three counts of words), then the words;
-// benches/jobs.py says what each kind makes of them. A line is the job's kind, what the last call answered, and a checksum.
-mod expansions;
-mod images;
-mod job;
-mod lines;
-mod runs;
-mod store;
-
-use job::Job;
+// jobs one after the other. A line is the job's kind, what the last call answered, and a checksum.
+ghost use mathlib.Core.Path.{_≡_};
+ghost use lib.ListN.{length};
+use jobs::Job;
+use jobs::Line;
+use jobs::do_job;
+use jobs::job_of;
+use jobs::words_of;
 use libc::STDIN_FILENO;
-use machine::sizes::STREAM_WORDS;
+use libc::STDOUT_FILENO;
 
-// The job's line, from the words that were read for it; false where its kind is none.
-fn do_job(j: Job, room: &mut [u8], s0: &[u32], s1: &[u32], s2: &[u32], out: &mut [u32]) -> bool {
-    let kind = j.kind;
-    match kind {
-        1 => {
-            runs::do_runs(j, s0, s1, s2);
-            true
-        }
-        2 => images::do_saves(j, room),
-        3 => images::do_loads(j, room),
-        4 => expansions::do_expansions(j, s0, s1, out),
-        _ => false,
-    }
-}
+// Three streams' words, and their bytes.
+const WORDS_MOST: usize = 196608;
 
-// Reads a job and does it; false where there is none, or its words are not there or too many.
-fn one_job(
-    room: &mut [u8],
-    s0: &mut [u32],
-    s1: &mut [u32],
-    s2: &mut [u32],
-    out: &mut [u32],
-) -> bool {
+const BYTES_MOST: usize = 786432;
+
+// The next job of standard input; where there is none, one of no kind.
+fn next_job() -> Job {
     let mut record = [0u8; 28];
     let got = io::read_full(STDIN_FILENO, &mut record);
     if got < 28 {
+        return job_of(&[0u8; 28]);
+    }
+    job_of(&record)
+}
+
+// Fills the words from standard input, their bytes in the room lent; false where there is not room or input enough.
+fn read_words(room: &mut [u8], words: &mut [u32]) -> bool {
+    let n = words.len();
+    if room.len() / 4 < n {
         return false;
     }
-    let j = job::read(&record);
-    let n0 = j.n0;
-    let n1 = j.n1;
-    let n2 = j.n2;
-    if s0.len() < n0 {
+    let got = io::read_full(STDIN_FILENO, &mut room[..4 * n]);
+    if got < 4 * n {
         return false;
     }
-    if s1.len() < n1 {
+    format::run::read_words(room, 0, 4, words);
+    true
+}
+
+fn write_kind(kind: u32) {
+    match kind {
+        1 => io::write_all(STDOUT_FILENO, b"run"),
+        2 => io::write_all(STDOUT_FILENO, b"save"),
+        3 => io::write_all(STDOUT_FILENO, b"load"),
+        _ => io::write_all(STDOUT_FILENO, b"expand"),
+    }
+    ;
+}
+
+// A number, after a space.
+fn write_number(n: u32) {
+    io::write_all(STDOUT_FILENO, b" ");
+    io::print_decimal(STDOUT_FILENO, n as u64);
+}
+
+fn write_line(kind: u32, line: Line) {
+    write_kind(kind);
+    write_number(line.first);
+    write_number(line.second);
+    if 2 < line.count {
+        write_number(line.third);
+    }
+    if 3 < line.count {
+        write_number(line.fourth);
+    }
+    io::write_all(STDOUT_FILENO, b"\n");
+}
+
+// False where the job was not done.
+fn told(kind: u32, line: Line) -> bool {
+    if line.count == 0 {
         return false;
     }
-    if s2.len() < n2 {
+    write_line(kind, line);
+    true
+}
+
+// Reads the job's words and does it; false where they are not there or too many, or it was not done.
+fn do_with_words(j: Job, room: &mut [u8], words: &mut [u32]) -> bool {
+    let n = words_of(j);
+    if words.len() < n {
         return false;
     }
-    let r0 = job::read_words(room, &mut s0[..n0]);
-    let r1 = job::read_words(room, &mut s1[..n1]);
-    let r2 = job::read_words(room, &mut s2[..n2]);
-    if bits::both(r0, bits::both(r1, r2)) {
-        return do_job(j, room, &s0[..n0], &s1[..n1], &s2[..n2], out);
+    if !read_words(room, &mut words[..n]) {
+        return false;
     }
-    false
+    told(j.kind, do_job(j, room, words))
+}
+
+// Reads a job and does it; false where there is none.
+fn one_job(room: &mut [u8], words: &mut [u32]) -> bool {
+    let j = next_job();
+    do_with_words(j, room, words)
 }
 
 // No input uses the turns up: they are what a proved loop counts down.
-fn all_jobs(room: &mut [u8], s0: &mut [u32], s1: &mut [u32], s2: &mut [u32], out: &mut [u32]) {
+fn all_jobs(room: &mut [u8], words: &mut [u32]) {
     let mut turns = u32::MAX;
-    while turns > 0 && one_job(room, s0, s1, s2, out) {
+    while turns > 0 && one_job(room, words) {
         turns -= 1;
     }
 }
 
+// Zeros for bytes and words. That they are known by their number alone keeps the proof of main short.
+fn byte_buffer() -> [u8; BYTES_MOST]
+    ensures { λ r. ⌜ 786432 ≡ length r ⌝ }
+{
+    [0; BYTES_MOST]
+}
+
+fn word_buffer() -> [u32; WORDS_MOST]
+    ensures { λ r. ⌜ 196608 ≡ length r ⌝ }
+{
+    [0; WORDS_MOST]
+}
+
 fn main() {
-    let mut room = [0u8; 262144];
-    let mut s0 = [0u32; STREAM_WORDS];
-    let mut s1 = [0u32; STREAM_WORDS];
-    let mut s2 = [0u32; STREAM_WORDS];
-    let mut out = [0u32; STREAM_WORDS];
-    all_jobs(&mut room, &mut s0, &mut s1, &mut s2, &mut out);
+    let mut room = byte_buffer();
+    let mut words = word_buffer();
+    all_jobs(&mut room, &mut words);
 }

@@ -5,12 +5,18 @@ ghost use Prim.Native.Nat.{_<_};
 ghost use Rattle.machine.specs.Machine.{machine, stores};
 ghost use Rattle.machine.specs.Numbers.{outcomeNumbers};
 ghost use Rattle.machine.specs.Formed.{sized, formed, controlFormed};
+ghost use Rattle.machine.specs.Control.{waitOf};
 ghost use Rattle.word_rules.specs.InRange.{InRange};
-ghost use Rattle.step_rules.specs.Step.{stepped, passOf, gatedOf, offerOf, checkOf, stepOf};
+ghost use Rattle.gate.specs.Waits.{liftedNow};
+ghost use Rattle.gate.specs.Gate.{wordGate};
+ghost use Rattle.control.specs.Changes.{changedBy, ChangeFits};
+ghost use Rattle.step_rules.specs.Step.{stepped, passOf, byGate, gatedOf, offerOf, checkOf, stepOf};
+use control::after::Change;
 use gate::Gate;
 use machine::control::Control;
 use machine::refusal::Outcome;
 use machine::refusal::Refusal;
+use machine::refusal::StallCause;
 use step_rules::CallCheck;
 use word_rules::instruction::Decoded;
 use word_rules::instruction::Instruction;
@@ -21,7 +27,14 @@ pub struct Stepped {
     pub control: Control,
 }
 
-// The effect of a word that passes. Internal: the machine, the thread and the instruction are in range.
+// What came of a word offered, and what it changes in the control part.
+pub struct Answer {
+    pub outcome: Outcome,
+    pub change: Change,
+}
+
+// The effect of a word that passes, and drops its thread's wait if that is lifted. Internal: the machine, the thread and the
+// instruction are in range.
 fn pass(
     control: Control,
     settings: &mut [u16],
@@ -33,9 +46,10 @@ fn pass(
     src_b: &mut [u32],
     t: usize,
     i: Instruction,
-) -> Stepped
-    requires { ⌜ (sized (machine control (now settings) (stores (now gprs) (now config) (now dest) (now marks) (now «src_a») (now «src_b»))) ≡ true) × (controlFormed control ≡ true) × (t < 3) × InRange i ⌝ }
-    ensures { λ r. ⌜ stepped (r .outcome) (machine (r .control) (now (settings .exit)) (stores (now (gprs .exit)) (now (config .exit)) (now (dest .entry)) (now (marks .exit)) (now («src_a» .exit)) (now («src_b» .exit)))) ≡ passOf (machine control (now (settings .entry)) (stores (now (gprs .entry)) (now (config .entry)) (now (dest .entry)) (now (marks .entry)) (now («src_a» .entry)) (now («src_b» .entry)))) t i ⌝ }
+    drops: bool,
+) -> Answer
+    requires { ⌜ (sized (machine control (now settings) (stores (now gprs) (now config) (now dest) (now marks) (now «src_a») (now «src_b»))) ≡ true) × (controlFormed control ≡ true) × (t < 3) × InRange i × (drops ≡ liftedNow control (waitOf control t)) ⌝ }
+    ensures { λ r. ⌜ (stepped (r .outcome) (machine (changedBy control t (r .change)) (now (settings .exit)) (stores (now (gprs .exit)) (now (config .exit)) (now (dest .entry)) (now (marks .exit)) (now («src_a» .exit)) (now («src_b» .exit)))) ≡ passOf (machine control (now (settings .entry)) (stores (now (gprs .entry)) (now (config .entry)) (now (dest .entry)) (now (marks .entry)) (now («src_a» .entry)) (now («src_b» .entry)))) t i) × ChangeFits (r .change) ⌝ }
 {
     let bank_a = control.pointers[0] as usize;
     let bank_b = control.pointers[1] as usize;
@@ -51,10 +65,49 @@ fn pass(
         bank_b,
         i,
     );
-    let after = control::after::control_after(control, t, i);
-    Stepped {
+    let change = control::after::change_of(drops, i);
+    Answer {
         outcome: Outcome::Passed,
-        control: after,
+        change,
+    }
+}
+
+// A word that its thread's wait does not stall: it passes, or is stalled and changes nothing. Internal, as pass.
+fn unstalled(
+    control: Control,
+    settings: &mut [u16],
+    gprs: &mut [u32],
+    config: &mut [u32],
+    dest: &[u16],
+    marks: &mut [bool],
+    src_a: &mut [u32],
+    src_b: &mut [u32],
+    t: usize,
+    i: Instruction,
+    drops: bool,
+) -> Answer
+    requires { ⌜ (sized (machine control (now settings) (stores (now gprs) (now config) (now dest) (now marks) (now «src_a») (now «src_b»))) ≡ true) × (controlFormed control ≡ true) × (t < 3) × InRange i × (drops ≡ liftedNow control (waitOf control t)) ⌝ }
+    ensures { λ r. ⌜ (stepped (r .outcome) (machine (changedBy control t (r .change)) (now (settings .exit)) (stores (now (gprs .exit)) (now (config .exit)) (now (dest .entry)) (now (marks .exit)) (now («src_a» .exit)) (now («src_b» .exit)))) ≡ byGate (machine control (now (settings .entry)) (stores (now (gprs .entry)) (now (config .entry)) (now (dest .entry)) (now (marks .entry)) (now («src_a» .entry)) (now («src_b» .entry)))) t i (wordGate control t i)) × ChangeFits (r .change) ⌝ }
+{
+    let g = gate::word_gate(control, t, i);
+    match g {
+        Gate::Closed(cause) => Answer {
+            outcome: Outcome::Stalled(cause),
+            change: Change::Kept,
+        },
+        Gate::Open => pass(
+            control,
+            settings,
+            gprs,
+            config,
+            dest,
+            marks,
+            src_a,
+            src_b,
+            t,
+            i,
+            drops,
+        ),
     }
 }
 
@@ -70,29 +123,30 @@ fn gated(
     src_b: &mut [u32],
     t: usize,
     i: Instruction,
-) -> Stepped
+) -> Answer
     requires { ⌜ (sized (machine control (now settings) (stores (now gprs) (now config) (now dest) (now marks) (now «src_a») (now «src_b»))) ≡ true) × (controlFormed control ≡ true) × (t < 3) × InRange i ⌝ }
-    ensures { λ r. ⌜ stepped (r .outcome) (machine (r .control) (now (settings .exit)) (stores (now (gprs .exit)) (now (config .exit)) (now (dest .entry)) (now (marks .exit)) (now («src_a» .exit)) (now («src_b» .exit)))) ≡ gatedOf (machine control (now (settings .entry)) (stores (now (gprs .entry)) (now (config .entry)) (now (dest .entry)) (now (marks .entry)) (now («src_a» .entry)) (now («src_b» .entry)))) t i ⌝ }
+    ensures { λ r. ⌜ (stepped (r .outcome) (machine (changedBy control t (r .change)) (now (settings .exit)) (stores (now (gprs .exit)) (now (config .exit)) (now (dest .entry)) (now (marks .exit)) (now («src_a» .exit)) (now («src_b» .exit)))) ≡ gatedOf (machine control (now (settings .entry)) (stores (now (gprs .entry)) (now (config .entry)) (now (dest .entry)) (now (marks .entry)) (now («src_a» .entry)) (now («src_b» .entry)))) t i) × ChangeFits (r .change) ⌝ }
 {
-    let g = gate::may_pass(control, t, i);
-    match g {
-        Gate::Closed(cause) => Stepped {
-            outcome: Outcome::Stalled(cause),
-            control,
-        },
-        Gate::Open => pass(
-            control,
-            settings,
-            gprs,
-            config,
-            dest,
-            marks,
-            src_a,
-            src_b,
-            t,
-            i,
-        ),
+    let j = gate::judge(control, t, i);
+    if j.stalls {
+        return Answer {
+            outcome: Outcome::Stalled(StallCause::WaitHolds),
+            change: Change::Kept,
+        };
     }
+    unstalled(
+        control,
+        settings,
+        gprs,
+        config,
+        dest,
+        marks,
+        src_a,
+        src_b,
+        t,
+        i,
+        j.drops,
+    )
 }
 
 // A word offered by a thread. Internal: the machine is well formed and the thread in range; a run sees to that once.
@@ -107,15 +161,15 @@ pub fn offer(
     src_b: &mut [u32],
     t: usize,
     word: u32,
-) -> Stepped
+) -> Answer
     requires { ⌜ (sized (machine control (now settings) (stores (now gprs) (now config) (now dest) (now marks) (now «src_a») (now «src_b»))) ≡ true) × (controlFormed control ≡ true) × (t < 3) ⌝ }
-    ensures { λ r. ⌜ stepped (r .outcome) (machine (r .control) (now (settings .exit)) (stores (now (gprs .exit)) (now (config .exit)) (now (dest .entry)) (now (marks .exit)) (now («src_a» .exit)) (now («src_b» .exit)))) ≡ offerOf (machine control (now (settings .entry)) (stores (now (gprs .entry)) (now (config .entry)) (now (dest .entry)) (now (marks .entry)) (now («src_a» .entry)) (now («src_b» .entry)))) t word ⌝ }
+    ensures { λ r. ⌜ (stepped (r .outcome) (machine (changedBy control t (r .change)) (now (settings .exit)) (stores (now (gprs .exit)) (now (config .exit)) (now (dest .entry)) (now (marks .exit)) (now («src_a» .exit)) (now («src_b» .exit)))) ≡ offerOf (machine control (now (settings .entry)) (stores (now (gprs .entry)) (now (config .entry)) (now (dest .entry)) (now (marks .entry)) (now («src_a» .entry)) (now («src_b» .entry)))) t word) × ChangeFits (r .change) ⌝ }
 {
     let d = words::decode(word);
     match d {
-        Decoded::Rejects(r) => Stepped {
+        Decoded::Rejects(r) => Answer {
             outcome: Outcome::Refused(r),
-            control,
+            change: Change::Kept,
         },
         Decoded::Decodes(i) => gated(
             control,
@@ -192,17 +246,26 @@ pub fn step(
             outcome: Outcome::Refused(r),
             control,
         },
-        CallCheck::Fine => offer(
-            control,
-            settings,
-            gprs,
-            config,
-            dest,
-            marks,
-            src_a,
-            src_b,
-            thread as usize,
-            word,
-        ),
+        CallCheck::Fine => {
+            let t = thread as usize;
+            let x = offer(
+                control,
+                settings,
+                gprs,
+                config,
+                dest,
+                marks,
+                src_a,
+                src_b,
+                t,
+                word,
+            );
+            let outcome = x.outcome;
+            let change = x.change;
+            Stepped {
+                outcome,
+                control: control::after::changed(control, t, change),
+            }
+        }
     }
 }

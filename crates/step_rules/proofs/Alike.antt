@@ -1,9 +1,9 @@
 -- One word on two machines that agree goes alike: deciding is given no store.
 use Prim.Native.Nat.{ℕ}
-use mathlib.Core.Path.{_≡_, refl, ap, subst}
+use mathlib.Core.Path.{refl, ap, subst}
 use mathlib.Core.List.{List}
 use Rattle.machine.specs.declared.control.Control.{Control}
-use Rattle.machine.specs.Machine.{Machine, Stores, machine}
+use Rattle.machine.specs.Machine.{Machine}
 use Rattle.word_rules.specs.declared.instruction.Instruction.{Instruction}
 use Rattle.word_rules.specs.declared.instruction.Decoded.{Decoded}
 use Rattle.word_rules.specs.declared.instruction.Decoded.the-variants.{Decodes, Rejects}

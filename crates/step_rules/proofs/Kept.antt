@@ -1,14 +1,13 @@
 -- A word keeps a well-formed machine well formed.
 use Prim.Native.Nat.{ℕ, _<_}
-use mathlib.Core.Path.{_≡_, refl, sym, ap, _∙_, subst}
-use mathlib.Core.Bool.{Bool, true, _&&_}
-use mathlib.Core.List.{List}
+use mathlib.Core.Path.{_≡_, refl}
+use mathlib.Core.Bool.{true, _&&_}
 use lib.Dec.{eqb}
 use lib.ListN.{length}
 use Rattle.bits.specs.Ranges.{allAtMost}
-use Rattle.bits.proofs.Choices.{and-left, and-right, and-intro}
+use Rattle.bits.proofs.Choices.{and-left, and-right}
 use Rattle.machine.specs.Sizes.{settingCount, halfMost}
-use Rattle.machine.specs.Machine.{Machine, Stores, machine}
+use Rattle.machine.specs.Machine.{Machine}
 use Rattle.machine.specs.Formed.{sized, formed, wellFormed, controlFormed, storesSized, storesFormed}
 use Rattle.word_rules.specs.declared.instruction.Instruction.{Instruction}
 use Rattle.word_rules.specs.declared.instruction.Decoded.{Decoded}
@@ -21,7 +20,7 @@ use Rattle.gate.specs.declared.Gate.the-variants.{Open, Closed}
 use Rattle.banks.specs.Owners.{matrixBank}
 use Rattle.gate.specs.Gate.{gateOf}
 use Rattle.control.proofs.Keeps.{control-after-formed}
-use Rattle.effects.specs.After.{settingsAfter, storesAfter}
+use Rattle.effects.specs.After.{settingsAfter}
 use Rattle.effects.proofs.Keeps.{settings-long, settings-range, stores-sized, stores-formed}
 use Rattle.step_rules.specs.declared.CallCheck.{CallCheck}
 use Rattle.step_rules.specs.declared.CallCheck.the-variants.{Fine, Refuses}

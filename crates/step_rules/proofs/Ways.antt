@@ -24,12 +24,15 @@ use Rattle.word_rules.proofs.InRange.{decode-in-range}
 use Rattle.gate.specs.declared.Gate.{Gate}
 use Rattle.gate.specs.declared.Gate.the-variants.{Open, Closed}
 use Rattle.banks.specs.Owners.{matrixBank}
-use Rattle.gate.specs.Gate.{gateOf}
+use Rattle.machine.specs.declared.refusal.StallCause.the-variants.{WaitHolds}
+use Rattle.machine.specs.Control.{waitOf}
+use Rattle.gate.specs.Gate.{waitStalls, wordGate, gateOf}
+use Rattle.gate.proofs.Decides.{stall-closes, word-decides}
 use Rattle.control.specs.After.{controlAfter}
 use Rattle.effects.specs.After.{settingsAfter, storesAfter}
 use Rattle.step_rules.specs.declared.CallCheck.{CallCheck}
 use Rattle.step_rules.specs.declared.CallCheck.the-variants.{Fine, Refuses}
-use Rattle.step_rules.specs.Step.{Step, stepped, refused, machineAfter, passOf, byGate, gatedOf, byDecoded, offerOf, checkOf, byCheck, stepOf}
+use Rattle.step_rules.specs.Step.{Step, stepped, machineAfter, passOf, byGate, gatedOf, byDecoded, offerOf, checkOf, byCheck, stepOf}
 
 pub passes : (m : Machine) (t : ℕ) (i : Instruction) (c : Control) (s : List ℕ) (k : Stores) → c ≡ controlAfter (m .control) t i →
     s ≡ settingsAfter i t (m .settings) → k ≡ storesAfter i t (matrixBank (m .control) 0) (matrixBank (m .control) 1) (m .settings) (m .kept) →
@@ -37,16 +40,25 @@ pub passes : (m : Machine) (t : ℕ) (i : Instruction) (c : Control) (s : List �
 unfolding machineAfter
 passes m t i c s k p q r = rw (p, q, r)
 
-module _ (m : Machine) (t : ℕ) (i : Instruction) (g : Gate) (e : g ≡ gateOf (m .control) t i) where
-  by-gate : gatedOf m t i ≡ byGate m t i g
-  unfolding gatedOf
+module _ (m : Machine) (t : ℕ) (i : Instruction) (g : Gate) (e : g ≡ wordGate (m .control) t i) where
+  by-gate : byGate m t i (wordGate (m .control) t i) ≡ byGate m t i g
   by-gate = ap (λ (x : Gate). byGate m t i x) (sym e)
 
-  pub stalls : (k : StallCause) → g ≡ Closed k → stepped (Stalled k) m ≡ gatedOf m t i
-  stalls k h = sym (by-gate ∙ ap (λ (x : Gate). byGate m t i x) h)
+  pub gate-closed : (k : StallCause) → g ≡ Closed k → stepped (Stalled k) m ≡ byGate m t i (wordGate (m .control) t i)
+  gate-closed k h = sym (by-gate ∙ ap (λ (x : Gate). byGate m t i x) h)
 
-  pub gate-open : (s : Step) → g ≡ Open → s ≡ passOf m t i → s ≡ gatedOf m t i
+  pub gate-open : (s : Step) → g ≡ Open → s ≡ passOf m t i → s ≡ byGate m t i (wordGate (m .control) t i)
   gate-open s h p = p ∙ sym (by-gate ∙ ap (λ (x : Gate). byGate m t i x) h)
+
+-- the wait's test goes by a name
+module _ (m : Machine) (t : ℕ) (i : Instruction) (b : Bool) (e : b ≡ waitStalls (m .control) (waitOf (m .control) t) i) where
+  pub wait-stalls : b ≡ true → stepped (Stalled WaitHolds) m ≡ gatedOf m t i
+  unfolding gatedOf
+  wait-stalls h = ap (λ (x : Gate). byGate m t i x) (stall-closes (m .control) t i b e h)
+
+  pub no-stall : (s : Step) → b ≡ false → s ≡ byGate m t i (wordGate (m .control) t i) → s ≡ gatedOf m t i
+  unfolding gatedOf
+  no-stall s h p = p ∙ ap (λ (x : Gate). byGate m t i x) (sym (word-decides (m .control) t i b e h))
 
 module _ (m : Machine) (t w : ℕ) (d : Decoded) (e : d ≡ decodeOf w) where
   by-decoded : offerOf m t w ≡ byDecoded m t d

@@ -3,7 +3,6 @@
 // word (4). Within a group the machine goes on from case to case. A line is `p D`, `s N D` or `r N D`: passed, stalled or
 // refused with document 01's number, and the digest.
 mod cases;
-mod damage;
 mod input;
 mod lines;
 

@@ -1,13 +1,11 @@
 -- The loops over digits and bytes.
 use Prim.Native.Nat.{ℕ, zero, suc, _+_, _-_, _/_, _%_, _≤_, _<_}
 use mathlib.Core.Path.{_≡_, refl, sym, ap, _∙_}
-use mathlib.Core.Bool.{Bool, true, false, cond}
 use mathlib.Core.List.{List, [], _∷_, _++_, append-assoc}
-use native.Mathlib.Nat.{add-assoc, add-zero}
 use native.Mathlib.Numerals.{add-one}
 use native.Mathlib.Omega.{arith}
 use lib.Dec.{ltb}
-use lib.ListN.{length, take, drop, set, getD, length-append}
+use lib.ListN.{length, drop, set, getD, length-append}
 use lib.Seq.{take-set-le, drop-cons, drop-set-lt, drop-length, lt-length-set, getD-set-same}
 use borrow.Author.Tests.{lt-ltb, le-ltb}
 use Rattle.bits.specs.Overwrite.{over}

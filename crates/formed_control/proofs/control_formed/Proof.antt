@@ -1,6 +1,4 @@
 use Rattle.machine.specs.Formed.{controlFormed}
-use mathlib.Core.Path.{_≡_}
-use lib.ListN.{length}
 use borrow.Author.Tests.{eq-eqb}
 use borrow.Author.Needs.{needs}
 use Rattle.formed_control.proofs.control_formed.Statement.{statement}

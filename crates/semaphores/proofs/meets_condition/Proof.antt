@@ -1,4 +1,4 @@
-use borrow.Author.Tests.{eq-eqb, ne-eqb}
+use borrow.Author.Tests.{ne-eqb}
 use borrow.Author.Needs.{needs}
 use Rattle.semaphores.proofs.meets_condition.Statement.{statement}
 use Rattle.semaphores.proofs.meets_condition.Tie as tie

@@ -1,10 +1,7 @@
 use Rattle.text.proofs.Digits.{digits-next, digits-none}
 use Rattle.text.specs.Decimal.{lastDigits}
-use Rattle.bits.proofs.Overwrite.{over-none}
 use Rattle.bits.specs.Overwrite.{over}
-use lib.ListN.{set}
 use lib.ListN.{length, length-set}
-use borrow.Author.Needs.{needs}
 use native.Mathlib.Omega.{arith}
 use mathlib.Core.Path.{_≡_, refl, sym, _∙_}
 use Prim.Native.Nat.{_+_, _≤_, _<_, _-_}

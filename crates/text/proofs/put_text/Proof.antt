@@ -2,7 +2,6 @@ use Rattle.text.proofs.Digits.{text-next, text-end}
 use Rattle.bits.specs.Overwrite.{over}
 use lib.ListN.{drop}
 use lib.ListN.{length, length-set}
-use borrow.Author.Needs.{needs}
 use native.Mathlib.Omega.{arith}
 use mathlib.Core.Path.{_≡_, refl, sym, _∙_}
 use Prim.Native.Nat.{_+_, _≤_, _<_, _-_}

@@ -3,8 +3,8 @@ use mathlib.Core.Logic.{⊎-elim}
 use mathlib.Core.Path.{_≡_}
 use native.Mathlib.Omega.{arith}
 use borrow.Author.Needs.{needs}
-use Rattle.expander.specs.Counts.{outerCount}
-use Rattle.expander.proofs.Rounds.{round-within, rounds-over}
+use Rattle.templates.specs.Templates.{outerCount}
+use Rattle.templates.proofs.Rounds.{round-within, rounds-over}
 use Rattle.expander.proofs.count.count_rounds.Statement.{statement}
 use Rattle.expander.proofs.count.count_rounds.Tie as tie
 

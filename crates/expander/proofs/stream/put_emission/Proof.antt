@@ -1,6 +1,6 @@
 use borrow.Author.Needs.{needs}
 use Rattle.expander.proofs.Folds.{word-mop, word-config, word-through}
-use Rattle.expander.proofs.Writing.{wrote-none}
+use Rattle.templates.proofs.Writing.{wrote-none}
 use Rattle.expander.proofs.stream.put_emission.Statement.{statement}
 use Rattle.expander.proofs.stream.put_emission.Tie as tie
 

@@ -5,7 +5,7 @@ use lib.ListN.{length, getD, drop}
 use borrow.Author.Needs.{needs}
 use Rattle.expander.specs.Stream.{Emission, wordOf, streamOf}
 use Rattle.expander.proofs.Folds.{stream-next, stream-end}
-use Rattle.expander.proofs.Writing.{Left, left-start, left-room, left-next, left-done}
+use Rattle.templates.proofs.Writing.{Left, left-start, left-room, left-next, left-done}
 use Rattle.expander.proofs.stream.put_stream.Statement.{statement}
 use Rattle.expander.proofs.stream.put_stream.Tie as tie
 

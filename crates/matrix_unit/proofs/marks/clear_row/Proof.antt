@@ -1,5 +1,4 @@
 use Prim.Native.Nat.{_<_}
-use native.Mathlib.Omega.{arith}
 use borrow.Author.Needs.{needs}
 use Rattle.effects.specs.Marks.{clearRow}
 use Rattle.matrix_unit.proofs.marks.clear_row.Statement.{statement}

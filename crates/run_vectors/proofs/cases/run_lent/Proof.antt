@@ -1,3 +1,4 @@
+use Rattle.faults.proofs.Laws.{relent}
 use mathlib.Core.Path.{sym}
 use lib.Seq.{length-take-le}
 use borrow.Author.Needs.{needs}
@@ -5,25 +6,43 @@ use Rattle.run_vectors.proofs.cases.run_lent.Statement.{statement}
 use Rattle.run_vectors.proofs.cases.run_lent.Tie as tie
 
 slice-aggregate-run : tie.Need-slice-aggregate-run
-slice-aggregate-run c = sym (length-take-le _ _ (c .before .before .before .before .before .before .before .lent-length .ensures))
+slice-aggregate-run c = sym (length-take-le _ _ (c .before .before .before .before .before .before .before .lent-length .ensures .1))
 
 slice-aggregate-run-2 : tie.Need-slice-aggregate-run-2
-slice-aggregate-run-2 c = sym (length-take-le _ _ (c .before .before .before .before .before .before .before .lent-length2 .ensures))
+slice-aggregate-run-2 c = sym (length-take-le _ _ (c .before .before .before .before .before .before .before .lent-length2 .ensures .1))
 
 slice-aggregate-run-3 : tie.Need-slice-aggregate-run-3
-slice-aggregate-run-3 c = sym (length-take-le _ _ (c .before .before .before .before .before .before .before .lent-length3 .ensures))
+slice-aggregate-run-3 c = sym (length-take-le _ _ (c .before .before .before .before .before .before .before .lent-length3 .ensures .1))
 
 slice-aggregate-run-4 : tie.Need-slice-aggregate-run-4
-slice-aggregate-run-4 c = sym (length-take-le _ _ (c .before .before .before .before .before .before .before .lent-length4 .ensures))
+slice-aggregate-run-4 c = sym (length-take-le _ _ (c .before .before .before .before .before .before .before .lent-length4 .ensures .1))
 
 slice-aggregate-run-5 : tie.Need-slice-aggregate-run-5
-slice-aggregate-run-5 c = sym (length-take-le _ _ (c .before .before .before .before .before .before .before .lent-length5 .ensures))
+slice-aggregate-run-5 c = sym (length-take-le _ _ (c .before .before .before .before .before .before .before .lent-length5 .ensures .1))
 
 slice-aggregate-run-6 : tie.Need-slice-aggregate-run-6
-slice-aggregate-run-6 c = sym (length-take-le _ _ (c .before .before .before .before .before .before .before .lent-length6 .ensures))
+slice-aggregate-run-6 c = sym (length-take-le _ _ (c .before .before .before .before .before .before .before .lent-length6 .ensures .1))
 
 slice-aggregate-run-7 : tie.Need-slice-aggregate-run-7
-slice-aggregate-run-7 c = sym (length-take-le _ _ (c .before .before .before .before .before .before .before .lent-length7 .ensures))
+slice-aggregate-run-7 c = sym (length-take-le _ _ (c .before .before .before .before .before .before .before .lent-length7 .ensures .1))
+
+same-length : tie.Need-same-length
+same-length c = relent _ (c .before .before .before .before .before .before .before .before .before .before .before .before .run .last .1 .0) _ (c .before .before .before .before .before .before .before .before .before .before .before .before .before .before .before .before .before .before .before .before .before .before .before .before .before .before .lent-length .ensures .1) (c .before .before .before .before .before .before .before .before .before .before .before .before .run .kept .1 .0)
+
+same-length-2 : tie.Need-same-length-2
+same-length-2 c = relent _ (c .before .before .before .before .before .before .before .before .before .before .before .before .run .last .1 .1 .0) _ (c .before .before .before .before .before .before .before .before .before .before .before .before .before .before .before .before .before .before .before .before .before .before .before .before .before .lent-length2 .ensures .1) (c .before .before .before .before .before .before .before .before .before .before .before .before .run .kept .1 .1 .0)
+
+same-length-3 : tie.Need-same-length-3
+same-length-3 c = relent _ (c .before .before .before .before .before .before .before .before .before .before .before .before .run .last .1 .1 .1 .0) _ (c .before .before .before .before .before .before .before .before .before .before .before .before .before .before .before .before .before .before .before .before .before .before .before .before .lent-length3 .ensures .1) (c .before .before .before .before .before .before .before .before .before .before .before .before .run .kept .1 .1 .1 .0)
+
+same-length-4 : tie.Need-same-length-4
+same-length-4 c = relent _ (c .before .before .before .before .before .before .before .before .before .before .before .before .run .last .1 .1 .1 .1 .1 .0) _ (c .before .before .before .before .before .before .before .before .before .before .before .before .before .before .before .before .before .before .before .before .before .before .lent-length5 .ensures .1) (c .before .before .before .before .before .before .before .before .before .before .before .before .run .kept .1 .1 .1 .1 .1 .0)
+
+same-length-5 : tie.Need-same-length-5
+same-length-5 c = relent _ (c .before .before .before .before .before .before .before .before .before .before .before .before .run .last .1 .1 .1 .1 .1 .1 .0) _ (c .before .before .before .before .before .before .before .before .before .before .before .before .before .before .before .before .before .before .before .before .before .lent-length6 .ensures .1) (c .before .before .before .before .before .before .before .before .before .before .before .before .run .kept .1 .1 .1 .1 .1 .1 .0)
+
+same-length-6 : tie.Need-same-length-6
+same-length-6 c = relent _ (c .before .before .before .before .before .before .before .before .before .before .before .before .run .last .1 .1 .1 .1 .1 .1 .1 .0) _ (c .before .before .before .before .before .before .before .before .before .before .before .before .before .before .before .before .before .before .before .before .lent-length7 .ensures .1) (c .before .before .before .before .before .before .before .before .before .before .before .before .run .kept .1 .1 .1 .1 .1 .1 .1 .0)
 
 pub run-lent-spec : {M : Type 1} → statement M
 run-lent-spec =
@@ -36,26 +55,24 @@ run-lent-spec =
     (λ c κs. search needs)
     (λ c κs. search needs)
     (λ c κs. search needs)
-    (λ c. search needs)
+    (λ c. c .before .before .before .before .before .before .lent-length .ensures .1)
     slice-aggregate-run
-    (λ c. search needs)
+    (λ c. c .before .before .before .before .before .before .lent-length2 .ensures .1)
     slice-aggregate-run-2
-    (λ c. search needs)
+    (λ c. c .before .before .before .before .before .before .lent-length3 .ensures .1)
     slice-aggregate-run-3
     slice-aggregate-run-4
-    (λ c. search needs)
+    (λ c. c .before .before .before .before .before .before .lent-length5 .ensures .1)
     slice-aggregate-run-5
-    (λ c. search needs)
+    (λ c. c .before .before .before .before .before .before .lent-length6 .ensures .1)
     slice-aggregate-run-6
-    (λ c. search needs)
+    (λ c. c .before .before .before .before .before .before .lent-length7 .ensures .1)
     slice-aggregate-run-7
     (λ c κs. search needs)
-    (λ c κs. search needs)
-    (λ c κs. search needs)
-    (λ c. search needs)
-    (λ c. search needs)
-    (λ c. search needs)
-    (λ c. search needs)
-    (λ c. search needs)
-    (λ c. search needs)
+    same-length
+    same-length-2
+    same-length-3
+    same-length-4
+    same-length-5
+    same-length-6
     (λ c. search needs))

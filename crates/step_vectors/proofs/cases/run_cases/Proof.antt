@@ -1,8 +1,8 @@
 use Prim.Native.Nat.{_-_, _≤_}
-use mathlib.Core.Path.{_≡_, refl, _∙_}
+use mathlib.Core.Path.{_≡_, _∙_}
 use native.Mathlib.Omega.{arith}
-use borrow.Author.Needs.{needs}
 use lib.ListN.{length}
+use borrow.Author.Needs.{needs}
 use Rattle.step_vectors.proofs.cases.run_cases.Statement.{statement}
 use Rattle.step_vectors.proofs.cases.run_cases.Tie as tie
 
@@ -14,17 +14,20 @@ Inv-loop settings₀ gprs₀ config₀ dest marks₀ src-a₀ src-b₀ short cas
 abbrev μ-loop : tie.MeasureT-loop
 μ-loop settings₀ gprs₀ config₀ dest marks₀ src-a₀ src-b₀ short cases c₀ at₀ settings gprs config marks src-a src-b c at = length cases - at
 
-loop-holds : tie.Need-loop-holds Inv-loop μ-loop
-loop-holds c = (omega arith, refl, refl, refl, refl, refl, refl)
+add-read : tie.Need-add-read Inv-loop μ-loop
+add-read c = omega (arith, c .before .loop-test .taken, c .before .before .loop .inv .0, c .before .before .before .before .before .before .before .before .before .before .before .good)
 
 add-at : tie.Need-add-at Inv-loop μ-loop
-add-at c = omega (arith, c .before .before .before .before .before .before .before .before .before .before .before .before .before .before .before .before .before .before .before .before .before .loop-test .taken, c .before .before .before .before .before .before .before .before .before .before .before .before .before .before .before .before .before .before .before .before .before .before .loop .inv .0, c .before .before .before .before .before .before .before .before .before .before .before .before .before .before .before .before .before .before .before .before .before .before .before .before .before .before .before .before .before .before .before .good)
+add-at c = omega (arith, c .before .before .loop-test .taken, c .before .before .before .loop .inv .0, c .before .before .before .before .before .before .before .before .before .before .before .before .good)
+
+loop-less : tie.Need-loop-less Inv-loop μ-loop
+loop-less c = omega (arith, c .before .before .before .before .before .before .before .before .before .before .before .before .before .before .before .before .before .before .before .before .before .before .before .before .before .before .before .before .before .loop-test .taken, c .before .before .before .before .before .before .before .before .before .before .before .before .before .before .before .before .before .before .before .before .before .before .before .before .before .before .before .before .before .before .loop .inv .0)
 
 loop-again : tie.Need-loop-again Inv-loop μ-loop
 loop-again c =
-    let l = c .before .before .before .before .before .before .before .before .before .before .before .before .before .before .before .before .before .before .before .before .before .before .loop in
-    let k = c .before .before .before .before .before .before .before .before .before .before .before .before .run-case .kept in
-    (omega arith, k .1 .0 ∙ l .inv .1, k .1 .1 .0 ∙ l .inv .2, k .1 .1 .1 .0 ∙ l .inv .3, k .1 .1 .1 .1 .1 .0 ∙ l .inv .4, k .1 .1 .1 .1 .1 .1 .0 ∙ l .inv .5, k .1 .1 .1 .1 .1 .1 .1 .0 ∙ l .inv .6)
+    let l = c .before .before .before .before .before .before .before .before .before .before .before .before .before .before .before .before .before .before .before .before .before .before .before .before .before .before .before .before .before .before .loop in
+    let k = c .before .before .before .before .before .before .before .before .before .before .before .before .before .before .before .before .before .before .before .before .step-lent .kept in
+    (omega (arith, c .before .before .before .before .before .before .before .before .before .before .before .before .before .before .before .before .before .before .before .before .before .before .before .before .before .before .before .before .before .loop-test .taken, l .inv .0), k .1 .0 ∙ l .inv .1, k .1 .1 .0 ∙ l .inv .2, k .1 .1 .1 .0 ∙ l .inv .3, k .1 .1 .1 .1 .1 .0 ∙ l .inv .4, k .1 .1 .1 .1 .1 .1 .0 ∙ l .inv .5, k .1 .1 .1 .1 .1 .1 .1 .0 ∙ l .inv .6)
 
 same-length : tie.Need-same-length Inv-loop μ-loop
 same-length c = c .before .loop .inv .1
@@ -50,14 +53,15 @@ run-cases-spec =
     (tie.spec
     Inv-loop
     μ-loop
-    loop-holds
+    (λ c. search needs)
     (λ c. search needs)
     (λ c κs. search needs)
-    (λ c. search needs)
-    (λ c κs. search needs)
+    add-read
     (λ c κs. search needs)
     add-at
-    (λ c. search needs)
+    (λ c κs. search needs)
+    (λ c κs. search needs)
+    loop-less
     loop-again
     same-length
     same-length-2
