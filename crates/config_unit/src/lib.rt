@@ -1,92 +1,138 @@
-// The words of the config unit, which move words between GPRs and the thread's Config bank.
+// The words of the config unit, offered: each is refused, stalled by its thread's wait, or moves words between GPRs, Config
+// and the thread settings.
 mod merge;
+mod moves;
 pub mod settings;
 
 ghost use mathlib.Core.Path.{_≡_};
-ghost use Prim.Native.Nat.{_<_};
+ghost use Prim.Native.Nat.{ℕ, _<_};
+ghost use mathlib.Core.List.{List};
 ghost use lib.ListN.{length};
-ghost use Rattle.word_rules.specs.InRange.{ConfigInRange};
-ghost use Rattle.effects.specs.Settings.{configSettings};
-ghost use Rattle.effects.specs.Gprs.{afterRdCfg, configGprs};
-ghost use Rattle.effects.specs.Config.{afterWrCfg, afterRmwCib, configWords};
-use crate::merge::with_merged;
+ghost use Rattle.word_rules.specs.ConfigWords.{wrCfgOf, rdCfgOf, setC16Of, rmwCibOf};
+ghost use Rattle.word_rules.specs.Units.{configRows};
+ghost use Rattle.effects.specs.Offered.{ConfigOffered};
+use crate::moves::read_config;
+use crate::moves::rmw_byte;
+use crate::moves::write_config;
+use crate::settings::bank_of;
 use crate::settings::set_setting;
-use effects::copy::copy_words;
-use effects::places::config_place;
-use machine::units::GprNumber;
-use machine::units::gpr_place;
-use word_rules::instruction::ConfigWord;
-
-// RDCFG.
-fn read_config(gprs: &mut [u32], config: &[u32], t: usize, bank: usize, gpr: GprNumber, index: u16)
-    requires { ⌜ (length (now gprs) ≡ 192) × (length (now config) ≡ 512) × (t < 3) × (bank < 2) × (gpr .0 < 64) × (index < 256) ⌝ }
-    ensures { λ _. ⌜ now (gprs .exit) ≡ afterRdCfg t bank gpr index (now (config .entry)) (now (gprs .entry)) ⌝ }
-{
-    let place = gpr_place(t, gpr);
-    gprs[place] = config[config_place(bank, index as usize)];
-}
+use config_words::byte_index;
+use config_words::entry;
+use config_words::index;
+use config_words::index_past;
+use config_words::mask;
+use config_words::new_bits;
+use config_words::source;
+use config_words::target;
+use config_words::target_or_index_past;
+use config_words::value;
+use config_words::wide;
+use machine::refusal::Outcome;
+use offers::stopped;
+use offers::verdict;
 
 // WRCFG.
-fn write_config(
+fn wr_cfg(
+    settings: &[u16],
     gprs: &[u32],
     config: &mut [u32],
     t: usize,
-    bank: usize,
-    gpr: GprNumber,
-    wide: bool,
-    index: u16,
-)
-    requires { ⌜ (length (now gprs) ≡ 192) × (length (now config) ≡ 512) × (t < 3) × (bank < 2) × (gpr .0 < 64) × (index < 256) ⌝ }
-    ensures { λ _. ⌜ now (config .exit) ≡ afterWrCfg t bank gpr wide index (now (gprs .entry)) (now (config .entry)) ⌝ }
+    word: u32,
+    stalls: bool,
+) -> Outcome
+    requires { ⌜ (length (now settings) ≡ 192) × (length (now gprs) ≡ 192) × (length (now config) ≡ 512) × (t < 3) ⌝ }
+    ensures { λ r. ⌜ ConfigOffered stalls t (wrCfgOf word) (now (settings .entry)) (now (gprs .entry)) (now (config .entry)) r (now (settings .entry)) (now (gprs .entry)) (now (config .exit)) ⌝ }
 {
-    if wide {
-        let from = gpr_place(t, GprNumber(gpr.0 / 4 * 4));
-        let to = config_place(bank, (index / 4 * 4) as usize);
-        copy_words(gprs, config, from, to, 4);
-    } else {
-        let place = config_place(bank, index as usize);
-        config[place] = gprs[gpr_place(t, gpr)];
+    let past = index_past(word);
+    if stopped(false, past, stalls) {
+        return verdict(false, past, stalls);
     }
+    let bank = bank_of(settings, t);
+    write_config(gprs, config, t, bank, source(word), wide(word), index(word));
+    Outcome::Passed
+}
+
+// RDCFG.
+fn rd_cfg(
+    settings: &[u16],
+    gprs: &mut [u32],
+    config: &[u32],
+    t: usize,
+    word: u32,
+    stalls: bool,
+) -> Outcome
+    requires { ⌜ (length (now settings) ≡ 192) × (length (now gprs) ≡ 192) × (length (now config) ≡ 512) × (t < 3) ⌝ }
+    ensures { λ r. ⌜ ConfigOffered stalls t (rdCfgOf word) (now (settings .entry)) (now (gprs .entry)) (now (config .entry)) r (now (settings .entry)) (now (gprs .exit)) (now (config .entry)) ⌝ }
+{
+    let past = target_or_index_past(word);
+    if stopped(false, past, stalls) {
+        return verdict(false, past, stalls);
+    }
+    let bank = bank_of(settings, t);
+    read_config(gprs, config, t, bank, target(word), index(word));
+    Outcome::Passed
+}
+
+// SETC16.
+fn set_c16(settings: &mut [u16], t: usize, word: u32, stalls: bool) -> Outcome
+    requires { ⌜ (length (now settings) ≡ 192) × (t < 3) ⌝ }
+    ensures { λ r. ⌜ ((gprs config : List ℕ) → ConfigOffered stalls t (setC16Of word) (now (settings .entry)) gprs config r (now (settings .exit)) gprs config) ⌝ }
+{
+    if stalls {
+        return verdict(false, false, stalls);
+    }
+    set_setting(settings, t, entry(word), value(word));
+    Outcome::Passed
 }
 
 // RMWCIB0 to RMWCIB3.
-fn rmw_byte(config: &mut [u32], bank: usize, byte: u8, mask: u8, value: u8, index: u16)
-    requires { ⌜ (length (now config) ≡ 512) × (bank < 2) × (byte < 4) × (index < 256) ⌝ }
-    ensures { λ _. ⌜ now (config .exit) ≡ afterRmwCib bank byte mask value index (now (config .entry)) ⌝ }
+fn rmw_cib(
+    settings: &[u16],
+    config: &mut [u32],
+    t: usize,
+    word: u32,
+    byte: u8,
+    stalls: bool,
+) -> Outcome
+    requires { ⌜ (length (now settings) ≡ 192) × (length (now config) ≡ 512) × (t < 3) × (byte < 4) ⌝ }
+    ensures { λ r. ⌜ ((gprs : List ℕ) → ConfigOffered stalls t (rmwCibOf byte word) (now (settings .entry)) gprs (now (config .entry)) r (now (settings .entry)) gprs (now (config .exit))) ⌝ }
 {
-    let place = config_place(bank, index as usize);
-    config[place] = with_merged(byte, mask, value, config[place]);
+    if stalls {
+        return verdict(false, false, stalls);
+    }
+    let bank = bank_of(settings, t);
+    rmw_byte(
+        config,
+        bank,
+        byte,
+        mask(word),
+        new_bits(word),
+        byte_index(word),
+    );
+    Outcome::Passed
 }
 
-// A word of the config unit. Internal: the stores have their sizes, and the numbers are in range.
+// A word with an opcode of the config unit, offered by thread t. Internal: the stores have their sizes, and the thread is in range.
 pub fn config_word(
     settings: &mut [u16],
     gprs: &mut [u32],
     config: &mut [u32],
     t: usize,
-    bank: usize,
-    word: ConfigWord,
-)
-    requires { ⌜ (length (now settings) ≡ 192) × (length (now gprs) ≡ 192) × (length (now config) ≡ 512) × (t < 3) × (bank < 2) × ConfigInRange word ⌝ }
-    ensures { λ _. ⌜ (now (settings .exit) ≡ configSettings word t (now (settings .entry))) × (now (gprs .exit) ≡ configGprs word t bank (now (config .entry)) (now (gprs .entry))) × (now (config .exit) ≡ configWords word t bank (now (gprs .entry)) (now (config .entry))) ⌝ }
+    op: u32,
+    word: u32,
+    stalls: bool,
+) -> Outcome
+    requires { ⌜ (length (now settings) ≡ 192) × (length (now gprs) ≡ 192) × (length (now config) ≡ 512) × (t < 3) ⌝ }
+    ensures { λ r. ⌜ ConfigOffered stalls t (configRows op word) (now (settings .entry)) (now (gprs .entry)) (now (config .entry)) r (now (settings .exit)) (now (gprs .exit)) (now (config .exit)) ⌝ }
 {
-    match word {
-        ConfigWord::WrCfg { gpr, wide, index } => write_config(
-            gprs,
-            config,
-            t,
-            bank,
-            gpr,
-            wide,
-            index,
-        ),
-        ConfigWord::RdCfg { gpr, index } => read_config(gprs, config, t, bank, gpr, index),
-        ConfigWord::SetC16 { entry, value } => set_setting(settings, t, entry, value),
-        ConfigWord::RmwCib {
-            byte,
-            mask,
-            value,
-            index,
-        } => rmw_byte(config, bank, byte, mask, value, index),
+    match op {
+        0xB0 => wr_cfg(settings, gprs, config, t, word, stalls),
+        0xB1 => rd_cfg(settings, gprs, config, t, word, stalls),
+        0xB2 => set_c16(settings, t, word, stalls),
+        0xB3 => rmw_cib(settings, config, t, word, 0, stalls),
+        0xB4 => rmw_cib(settings, config, t, word, 1, stalls),
+        0xB5 => rmw_cib(settings, config, t, word, 2, stalls),
+        0xB6 => rmw_cib(settings, config, t, word, 3, stalls),
+        _ => verdict(true, false, stalls),
     }
 }

@@ -32,7 +32,7 @@ use Rattle.semaphores.proofs.Keeps.{ChangeInRange, change-long, change-formed}
 use Rattle.banks.proofs.Keeps.{set-dvalid-facts, clear-dvalid-facts}
 use Rattle.gate.specs.Waits.{holdsNow}
 use Rattle.control.specs.After.{withWait, dropLifted, syncAfter, matrixAfter, wordAfter, controlAfter}
-use Rattle.control.specs.Changes.{droppedIf}
+use Rattle.control.specs.Offered.{droppedIf}
 
 -- ---- one part replaced by one in range
 module _ (c : Control) (f : ControlFacts c) where

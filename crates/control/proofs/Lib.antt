@@ -1,2 +1,3 @@
 pub mod Keeps
-pub mod Changing
+pub mod Dropping
+pub mod Offering

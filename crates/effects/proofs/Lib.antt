@@ -7,3 +7,4 @@ pub mod AllCleared
 pub mod Lengths
 pub mod Ranges
 pub mod Keeps
+pub mod Offering

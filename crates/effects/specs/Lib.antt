@@ -8,3 +8,4 @@ pub mod Config
 pub mod Marks
 pub mod Sources
 pub mod After
+pub mod Offered

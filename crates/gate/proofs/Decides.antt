@@ -1,21 +1,30 @@
--- The two ways of the gate, where the wait's test goes by a name.
+-- The gate of a word, by the block bits that its thread's wait stalls now.
 use Prim.Native.Nat.{ℕ}
-use mathlib.Core.Path.{_≡_, sym, ap, _∙_}
-use mathlib.Core.Bool.{Bool, true, false, cond}
+use mathlib.Core.Path.{_≡_, refl, sym, ap, subst, _∙_}
+use mathlib.Core.Bool.{Bool, true, false, cond, _&&_}
+use Rattle.bits.specs.Field.{flag}
+use Rattle.bits.proofs.Choices.{and-true}
+use Rattle.machine.specs.declared.control.Wait.{Wait}
+use Rattle.machine.specs.declared.control.Thread.{Thread}
 use Rattle.machine.specs.declared.control.Control.{Control}
-use Rattle.machine.specs.declared.refusal.StallCause.the-variants.{WaitHolds}
-use Rattle.machine.specs.Control.{waitOf}
-use Rattle.word_rules.specs.declared.instruction.Instruction.{Instruction}
-use Rattle.gate.specs.declared.Gate.the-variants.{Closed}
-use Rattle.gate.specs.Gate.{waitStalls, wordGate, gateOf}
+use Rattle.machine.specs.Control.{threadAt, waitOf}
+use Rattle.gate.specs.Waits.{waitBlock, holdsNow, liftedNow, blocksNow}
 
-module _ (c : Control) (t : ℕ) (i : Instruction) (s : Bool) (h : s ≡ waitStalls c (waitOf c t) i) where
-  by-test : gateOf c t i ≡ cond s (Closed WaitHolds) (wordGate c t i)
-  unfolding gateOf
-  by-test = ap (λ (b : Bool). cond b (Closed WaitHolds) (wordGate c t i)) (sym h)
+never-both : (a : Bool) → false ≡ (a && false)
+never-both true = refl
+never-both false = refl
 
-  pub stall-closes : s ≡ true → Closed WaitHolds ≡ gateOf c t i
-  stall-closes k = sym (by-test ∙ ap (λ (b : Bool). cond b (Closed WaitHolds) (wordGate c t i)) k)
+-- a unit's block bit among those that the wait stalls now
+pub bit-stalls : (c : Control) (t k : ℕ) → flag k 0 ≡ false →
+    flag k (blocksNow c (waitOf c t)) ≡ (flag k (waitBlock (waitOf c t)) && holdsNow c (waitOf c t))
+bit-stalls c t k z = go (holdsNow c (waitOf c t))
+  where
+    go : (h : Bool) → flag k (cond h (waitBlock (waitOf c t)) 0) ≡ (flag k (waitBlock (waitOf c t)) && h)
+    go true = sym (and-true (flag k (waitBlock (waitOf c t))))
+    go false = z ∙ never-both (flag k (waitBlock (waitOf c t)))
 
-  pub word-decides : s ≡ false → gateOf c t i ≡ wordGate c t i
-  word-decides k = by-test ∙ ap (λ (b : Bool). cond b (Closed WaitHolds) (wordGate c t i)) k
+-- what a thread's wait makes of its words, where the thread and its wait go by names
+pub judged-wait : (c : Control) (t : ℕ) (x : Thread) (w : Wait) (blocks : ℕ) (drops : Bool) → x ≡ threadAt c t → x .wait ≡ w →
+    (blocks ≡ blocksNow c w) × (drops ≡ liftedNow c w) → (blocks ≡ blocksNow c (waitOf c t)) × (drops ≡ liftedNow c (waitOf c t))
+judged-wait c t x w blocks drops e h p =
+    subst (λ (y : Wait). (blocks ≡ blocksNow c y) × (drops ≡ liftedNow c y)) (sym h ∙ ap (λ (y : Thread). y .wait) e) p

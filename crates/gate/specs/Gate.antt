@@ -5,25 +5,16 @@ use lib.Dec.{eqb}
 use lib.ListN.{getD}
 use Rattle.bits.specs.Field.{flag}
 use Rattle.machine.specs.declared.control.Wait.{Wait}
-use Rattle.machine.specs.declared.control.Wait.the-variants.{Clear, OnStall, OnSemaphore}
 use Rattle.machine.specs.declared.control.Control.{Control}
-use Rattle.machine.specs.declared.refusal.StallCause.the-variants.{WaitHolds, MutexHeld, BankNotMatrix}
+use Rattle.machine.specs.declared.refusal.StallCause.the-variants.{MutexHeld}
 use Rattle.machine.specs.Control.{waitOf}
 use Rattle.word_rules.specs.declared.instruction.Instruction.{Instruction}
 use Rattle.word_rules.specs.declared.instruction.Instruction.the-variants.{Nop, Scalar, Sync, Config, Matrix}
 use Rattle.word_rules.specs.declared.instruction.SyncWord.{SyncWord}
 use Rattle.word_rules.specs.declared.instruction.SyncWord.the-variants.{AtGetM, AtRelM, StallWait, SemInit, SemPost, SemGet, SemWait}
-use Rattle.word_rules.specs.declared.instruction.MatrixWord.{MatrixWord}
-use Rattle.word_rules.specs.declared.instruction.MatrixWord.the-variants.{TrnspSrcB, MovB2A, ZeroAcc, ClearDValid, SetDValid}
-use Rattle.gate.specs.declared.Gate.{Gate}
-use Rattle.gate.specs.declared.Gate.the-variants.{Open, Closed}
+use Rattle.offers.specs.Offer.{Gate, Open, Closed, waitFirst, matrixGate}
 use Rattle.banks.specs.Owners.{matrixOwns}
-use Rattle.gate.specs.Waits.{holdsNow}
-
-abbrev pub blockOf : Wait → ℕ
-blockOf Clear = 0
-blockOf (OnStall block conditions) = block
-blockOf (OnSemaphore block mask condition) = block
+use Rattle.gate.specs.Waits.{waitBlock, holdsNow}
 
 -- the block mask names the word: none for NOP, else B5, B1, B7, B6
 abbrev pub namedBy : ℕ → Instruction → Bool
@@ -35,7 +26,7 @@ namedBy block (Matrix x) = flag 6 block
 
 -- a wait that isn't lifted stalls words whose block bit it names
 abbrev pub waitStalls : Control → Wait → Instruction → Bool
-waitStalls c w i = namedBy (blockOf w) i && holdsNow c w
+waitStalls c w i = namedBy (waitBlock w) i && holdsNow c w
 
 -- ATGETM takes a free one, passes if already its own, else waits
 abbrev pub mutexOpen : ℕ → ℕ → Bool
@@ -50,21 +41,13 @@ syncGate c t (SemPost mask) = Open
 syncGate c t (SemGet mask) = Open
 syncGate c t (SemWait block mask condition) = Open
 
--- TRNSPSRCB and MOVB2A wait for SrcB's owner Matrix, not for SrcA; SETDVALID and CLEARDVALID don't wait
-abbrev pub matrixGate : Control → MatrixWord → Gate
-matrixGate c TrnspSrcB = cond (matrixOwns c 1) Open (Closed BankNotMatrix)
-matrixGate c (MovB2A rowA four rowB) = cond (matrixOwns c 1) Open (Closed BankNotMatrix)
-matrixGate c (ZeroAcc mode wide place) = Open
-matrixGate c (ClearDValid a b keep reset) = Open
-matrixGate c (SetDValid a b) = Open
-
 abbrev pub wordGate : Control → ℕ → Instruction → Gate
 wordGate c t Nop = Open
 wordGate c t (Scalar s) = Open
 wordGate c t (Sync s) = syncGate c t s
 wordGate c t (Config k) = Open
-wordGate c t (Matrix x) = matrixGate c x
+wordGate c t (Matrix x) = matrixGate (matrixOwns c 1) x
 
 -- the wait (101), then the mutex (102), then SrcB's owner (103)
 unfoldable pub gateOf : Control → ℕ → Instruction → Gate
-gateOf c t i = cond (waitStalls c (waitOf c t) i) (Closed WaitHolds) (wordGate c t i)
+gateOf c t i = waitFirst (waitStalls c (waitOf c t) i) (wordGate c t i)

@@ -1,12 +1,11 @@
-// Whether a wait holds now.
+// Whether a stall wait holds now.
 ghost use mathlib.Core.Path.{_≡_};
 ghost use mathlib.Core.Bool.{true, not, _&&_};
 ghost use Rattle.machine.specs.Formed.{controlFormed};
-ghost use Rattle.gate.specs.Waits.{stallHolds, holdsNow};
+ghost use Rattle.gate.specs.Waits.{stallHolds};
 use banks::owners::matrix_owns;
 use banks::owners::unpackers_own;
 use machine::control::Control;
-use machine::control::Wait;
 
 // Whether the condition is named and its bank is not owned as it should be.
 fn fails(named: bool, owned: bool) -> bool
@@ -15,8 +14,8 @@ fn fails(named: bool, owned: bool) -> bool
     if named { !owned } else { false }
 }
 
-// Whether one of the stall conditions named holds now.
-fn stall_holds(c: Control, k: u16) -> bool
+// Whether one of the stall conditions named holds now. Internal: the control part is in range.
+pub fn stall_holds(c: Control, k: u32) -> bool
     requires { ⌜ controlFormed c ≡ true ⌝ }
     ensures { λ r. ⌜ r ≡ stallHolds c k ⌝ }
 {
@@ -25,26 +24,4 @@ fn stall_holds(c: Control, k: u16) -> bool
     let c7 = fails(k / 128 % 2 == 1, matrix_owns(c, 0));
     let c8 = fails(k / 256 % 2 == 1, matrix_owns(c, 1));
     bits::either(c5, bits::either(c6, bits::either(c7, c8)))
-}
-
-// Whether something in the wait holds now. Internal: the control part is in range.
-pub fn holds(c: Control, w: Wait) -> bool
-    requires { ⌜ controlFormed c ≡ true ⌝ }
-    ensures { λ r. ⌜ r ≡ holdsNow c w ⌝ }
-{
-    match w {
-        Wait::Clear => false,
-        Wait::OnStall {
-            block: _,
-            conditions,
-        } => stall_holds(c, conditions),
-        Wait::OnSemaphore {
-            block: _,
-            mask,
-            condition,
-        } => {
-            let all = c.semaphores;
-            semaphores::some_meets(all, mask, condition)
-        }
-    }
 }

@@ -54,7 +54,7 @@ fn wait_from(kind: u32, block: u16, low: u16) -> Wait
     if kind == 1 {
         return Wait::OnStall {
             block,
-            conditions: low,
+            conditions: low as u32,
         };
     }
     let mask = ((low >> 2) % 256) as u8;
@@ -79,13 +79,13 @@ pub fn read_thread(s: &[u8], at: usize) -> Thread
 }
 
 // Writes a wait's three numbers. Internal: there is room.
-fn write_numbers(out: &mut [u8], at: usize, kind: u32, block: u16, low: u16)
+fn write_numbers(out: &mut [u8], at: usize, kind: u32, block: u16, low: u32)
     requires { ⌜ at + 5 ≤ length (now out) ⌝ }
     ensures { λ _. ⌜ Wrote (now (out .entry)) at (waitNumbers .put (kind, (block, low))) (now (out .exit)) (at + 5) ⌝ }
 {
     format::number::write(out, at, 1, kind);
     format::number::write_half(out, at + 1, block);
-    format::number::write_half(out, at + 3, low);
+    format::number::write(out, at + 3, 2, low);
 }
 
 // Writes a thread's wait. Internal: there is room.
@@ -101,6 +101,6 @@ pub fn write_thread(out: &mut [u8], at: usize, t: Thread)
             block,
             mask,
             condition,
-        } => write_numbers(out, at, 2, block, mask as u16 * 4 + condition as u16),
+        } => write_numbers(out, at, 2, block, mask as u32 * 4 + condition as u32),
     }
 }

@@ -104,7 +104,7 @@ fn byte(v: u32, n: u32) -> u8 {
 fn stall(v: u32) -> Thread {
     let wait = Wait::OnStall {
         block: (v % 65536) as u16,
-        conditions: (v / 65536) as u16,
+        conditions: v / 65536,
     };
     Thread { wait }
 }

@@ -10,7 +10,7 @@ use crate::sizes::SOURCE_BANKS;
 // A thread's wait: none, a stall wait, or a semaphore wait. The masks are the fields of STALLWAIT and SEMWAIT.
 pub enum Wait {
     Clear,
-    OnStall { block: u16, conditions: u16 },
+    OnStall { block: u16, conditions: u32 },
     OnSemaphore { block: u16, mask: u8, condition: u8 },
 }
 

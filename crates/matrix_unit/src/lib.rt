@@ -1,82 +1,93 @@
-// The words of the matrix unit.
+// The words of the matrix unit that work on Dest's marks and the source files, offered: each is refused, stalled by its
+// thread's wait or by the owner of SrcB's bank, or does its work.
 mod marks;
+mod rows;
 
 ghost use mathlib.Core.Path.{_≡_};
-ghost use Prim.Native.Nat.{_<_};
+ghost use mathlib.Core.Bool.{Bool};
+ghost use mathlib.Core.List.{List};
+ghost use Prim.Native.Nat.{ℕ, _<_};
 ghost use lib.ListN.{length};
-ghost use Rattle.word_rules.specs.InRange.{MatrixInRange};
-ghost use Rattle.effects.specs.Marks.{matrixMarks};
-ghost use Rattle.effects.specs.Sources.{afterMovB2A, matrixSrcA, matrixSrcB};
+ghost use Rattle.word_rules.specs.declared.instruction.MatrixWord.the-variants.{TrnspSrcB};
+ghost use Rattle.word_rules.specs.declared.instruction.Instruction.the-variants.{Matrix};
+ghost use Rattle.word_rules.specs.declared.instruction.Decoded.the-variants.{Decodes};
+ghost use Rattle.word_rules.specs.MatrixWords.{movB2AOf, zeroAccOf};
+ghost use Rattle.effects.specs.Offered.{MatrixOffered};
 use crate::marks::zero_marks;
-use effects::copy::copy_words;
+use crate::rows::copy_rows;
 use effects::places::row_place;
 use face::transpose_face;
-use machine::sizes::ROW_CELLS;
-use word_rules::instruction::MatrixWord;
+use machine::refusal::Outcome;
+use machine::refusal::StallCause;
+use matrix_words::four;
+use matrix_words::has_addr_mod;
+use matrix_words::mode;
+use matrix_words::place;
+use matrix_words::place_past;
+use matrix_words::row_a;
+use matrix_words::row_b;
+use matrix_words::wide;
+use offers::stopped;
+use offers::verdict;
 
-// MOVB2A.
-fn copy_rows(
+// TRNSPSRCB, with the bank at SrcB's matrix pointer, and whether Matrix owns it. Internal, as all below: the stores have their
+// sizes, and the banks are in range.
+pub fn trnsp_src_b(src_b: &mut [u32], bank_b: usize, owned: bool, stalls: bool) -> Outcome
+    requires { ⌜ (length (now «src_b») ≡ 2048) × («bank_b» < 2) ⌝ }
+    ensures { λ r. ⌜ ((bank bankA : ℕ) (config : List ℕ) (marks : List Bool) (srcA : List ℕ) → MatrixOffered stalls owned bank bankA «bank_b» (Decodes (Matrix TrnspSrcB)) config marks srcA (now («src_b» .entry)) r marks srcA (now («src_b» .exit))) ⌝ }
+{
+    if stalls {
+        return verdict(false, false, stalls);
+    }
+    if owned {
+        transpose_face(src_b, row_place(bank_b, 16));
+        return Outcome::Passed;
+    }
+    Outcome::Stalled(StallCause::BankNotMatrix)
+}
+
+// MOVB2A, with the banks at the matrix pointers, and whether Matrix owns SrcB's.
+pub fn mov_b2a(
     src_a: &mut [u32],
     src_b: &[u32],
     bank_a: usize,
     bank_b: usize,
-    row_a: u8,
-    four: bool,
-    row_b: u8,
-)
-    requires { ⌜ (length (now «src_a») ≡ 2048) × (length (now «src_b») ≡ 2048) × («bank_a» < 2) × («bank_b» < 2) × («row_a» < 64) × («row_b» < 64) ⌝ }
-    ensures { λ _. ⌜ now («src_a» .exit) ≡ afterMovB2A «bank_a» «bank_b» «row_a» four «row_b» (now («src_b» .entry)) (now («src_a» .entry)) ⌝ }
+    owned: bool,
+    word: u32,
+    stalls: bool,
+) -> Outcome
+    requires { ⌜ (length (now «src_a») ≡ 2048) × (length (now «src_b») ≡ 2048) × («bank_a» < 2) × («bank_b» < 2) ⌝ }
+    ensures { λ r. ⌜ ((bank : ℕ) (config : List ℕ) (marks : List Bool) → MatrixOffered stalls owned bank «bank_a» «bank_b» (movB2AOf word) config marks (now («src_a» .entry)) (now («src_b» .entry)) r marks (now («src_a» .exit)) (now («src_b» .entry))) ⌝ }
 {
-    if four {
-        let from = row_place(bank_b, (row_b / 4 * 4) as usize);
-        let to = row_place(bank_a, (row_a / 4 * 4) as usize);
-        copy_words(src_b, src_a, from, to, 4 * ROW_CELLS);
-    } else {
-        let from = row_place(bank_b, row_b as usize);
-        let to = row_place(bank_a, row_a as usize);
-        copy_words(src_b, src_a, from, to, ROW_CELLS);
+    let bad = has_addr_mod(word);
+    if stopped(bad, false, stalls) {
+        return verdict(bad, false, stalls);
     }
-}
-
-// A word of the matrix unit. Internal: the stores have their sizes, and the numbers are in range.
-pub fn matrix_word(
-    config: &[u32],
-    marks: &mut [bool],
-    src_a: &mut [u32],
-    src_b: &mut [u32],
-    bank: usize,
-    bank_a: usize,
-    bank_b: usize,
-    word: MatrixWord,
-)
-    requires { ⌜ (length (now config) ≡ 512) × (length (now marks) ≡ 1024) × (length (now «src_a») ≡ 2048) × (length (now «src_b») ≡ 2048) × (bank < 2) × («bank_a» < 2) × («bank_b» < 2) × MatrixInRange word ⌝ }
-    ensures { λ _. ⌜ (now (marks .exit) ≡ matrixMarks word bank (now (config .entry)) (now (marks .entry))) × (now («src_a» .exit) ≡ matrixSrcA word «bank_a» «bank_b» (now («src_b» .entry)) (now («src_a» .entry))) × (now («src_b» .exit) ≡ matrixSrcB word «bank_b» (now («src_b» .entry))) ⌝ }
-{
-    match word {
-        MatrixWord::TrnspSrcB => transpose_face(src_b, row_place(bank_b, 16)),
-        MatrixWord::MovB2A { row_a, four, row_b } => copy_rows(
+    if owned {
+        copy_rows(
             src_a,
             src_b,
             bank_a,
             bank_b,
-            row_a,
-            four,
-            row_b,
-        ),
-        MatrixWord::ZeroAcc { mode, wide, place } => zero_marks(
-            marks,
-            config,
-            bank,
-            mode,
-            wide,
-            place,
-        ),
-        MatrixWord::ClearDValid {
-            a: _,
-            b: _,
-            keep: _,
-            reset: _,
-        } => {}
-        MatrixWord::SetDValid { a: _, b: _ } => {}
+            row_a(word),
+            four(word),
+            row_b(word),
+        );
+        return Outcome::Passed;
     }
+    Outcome::Stalled(StallCause::BankNotMatrix)
+}
+
+// ZEROACC, with the thread's Config bank.
+pub fn zero_acc(config: &[u32], marks: &mut [bool], bank: usize, word: u32, stalls: bool) -> Outcome
+    requires { ⌜ (length (now config) ≡ 512) × (length (now marks) ≡ 1024) × (bank < 2) ⌝ }
+    ensures { λ r. ⌜ ((owned : Bool) (bankA bankB : ℕ) (srcA srcB : List ℕ) → MatrixOffered stalls owned bank bankA bankB (zeroAccOf word) (now (config .entry)) (now (marks .entry)) srcA srcB r (now (marks .exit)) srcA srcB) ⌝ }
+{
+    let bad = has_addr_mod(word);
+    let past = place_past(word);
+    if stopped(bad, past, stalls) {
+        return verdict(bad, past, stalls);
+    }
+    zero_marks(marks, config, bank, mode(word), wide(word), place(word));
+    Outcome::Passed
 }

@@ -61,9 +61,7 @@ pub fn take_turns(
             c,
         );
         let o = t.outcome;
-        let change = t.change;
-        let thread = c.next as usize;
-        k = control::after::changed(k, thread, change);
+        k = t.control;
         c = t.cursor;
         turns += 1;
         let e = refused_word(o);

@@ -1,11 +1,9 @@
 // One turn.
 ghost use mathlib.Core.Path.{_≡_};
 ghost use Rattle.machine.specs.Machine.{machine, stores};
-ghost use Rattle.control.specs.Changes.{changedBy, ChangeFits};
 ghost use Rattle.turns.specs.Streams.{streams};
 ghost use Rattle.run_rules.specs.Turn.{turned, turnOf};
 ghost use Rattle.run_rules.specs.Ready.{Ready};
-use control::after::Change;
 use machine::control::Control;
 use machine::refusal::Outcome;
 use turns::cursor::Cursor;
@@ -14,10 +12,10 @@ use turns::cursor::onward;
 use turns::streams::Offered;
 use turns::streams::next_word;
 
-// What came of a turn, what it changes in the control part, and the cursor after it.
+// What came of a turn, and the control part and cursor after it.
 pub struct Turned {
     pub outcome: Outcome,
-    pub change: Change,
+    pub control: Control,
     pub cursor: Cursor,
 }
 
@@ -37,13 +35,13 @@ pub fn turn(
     c: Cursor,
 ) -> Turned
     requires { ⌜ Ready (streams (now s0) (now s1) (now s2)) (machine control (now settings) (stores (now gprs) (now config) (now dest) (now marks) (now «src_a») (now «src_b»))) c ⌝ }
-    ensures { λ r. ⌜ (turned (r .outcome) (machine (changedBy control (c .next) (r .change)) (now (settings .exit)) (stores (now (gprs .exit)) (now (config .exit)) (now (dest .entry)) (now (marks .exit)) (now («src_a» .exit)) (now («src_b» .exit)))) (r .cursor) ≡ turnOf (streams (now (s0 .entry)) (now (s1 .entry)) (now (s2 .entry))) (machine control (now (settings .entry)) (stores (now (gprs .entry)) (now (config .entry)) (now (dest .entry)) (now (marks .entry)) (now («src_a» .entry)) (now («src_b» .entry)))) c) × ChangeFits (r .change) ⌝ }
+    ensures { λ r. ⌜ turned (r .outcome) (machine (r .control) (now (settings .exit)) (stores (now (gprs .exit)) (now (config .exit)) (now (dest .entry)) (now (marks .exit)) (now («src_a» .exit)) (now («src_b» .exit)))) (r .cursor) ≡ turnOf (streams (now (s0 .entry)) (now (s1 .entry)) (now (s2 .entry))) (machine control (now (settings .entry)) (stores (now (gprs .entry)) (now (config .entry)) (now (dest .entry)) (now (marks .entry)) (now («src_a» .entry)) (now («src_b» .entry)))) c ⌝ }
 {
     let w = next_word(s0, s1, s2, c);
     match w {
         Offered::NoWord => Turned {
             outcome: Outcome::Idle,
-            change: Change::Kept,
+            control,
             cursor: onward(c),
         },
         Offered::NextWord(word) => {
@@ -61,10 +59,10 @@ pub fn turn(
                 word,
             );
             let outcome = x.outcome;
-            let change = x.change;
+            let after = x.control;
             Turned {
                 outcome,
-                change,
+                control: after,
                 cursor: moved(outcome, c),
             }
         }

@@ -1,14 +1,11 @@
 -- The loop of a run against its definition: what holds before each turn, and what each way on or out makes of it.
 use Prim.Native.Nat.{ℕ, suc, _+_, _-_, _<_, _≤_}
 use mathlib.Core.Path.{_≡_, sym, ap, _∙_}
-use mathlib.Core.List.{List}
 use native.Mathlib.Nat.{add-zero, zero-add, sub-zero}
 use native.Mathlib.Omega.{arith}
 use lib.ListN.{length}
 use Rattle.bits.proofs.Choices.{and-left}
-use Rattle.machine.specs.declared.control.Control.{Control}
-use Rattle.machine.specs.declared.refusal.Outcome.{Outcome}
-use Rattle.machine.specs.Machine.{Machine, Stores, machine}
+use Rattle.machine.specs.Machine.{Machine}
 use Rattle.machine.specs.Formed.{sized, formed}
 use Rattle.machine.proofs.SizedFacts.{SizedFacts, sized-facts}
 use Rattle.turns.specs.declared.cursor.Cursor.{Cursor}
@@ -16,7 +13,7 @@ use Rattle.turns.specs.declared.ending.Ending.{Ending}
 use Rattle.turns.specs.declared.ending.Halt.{Halt}
 use Rattle.turns.specs.declared.ending.Halt.the-variants.{Ends, GoesOn}
 use Rattle.turns.specs.Streams.{Streams}
-use Rattle.run_rules.specs.Turn.{Turn, turned, turnOf}
+use Rattle.run_rules.specs.Turn.{Turn, turnOf}
 use Rattle.turns.specs.Ending.{haltOf, refusedWord, quietAfter}
 use Rattle.run_rules.specs.Run.{Run, before, runFrom, Summary, summary, summaryOf}
 use Rattle.run_rules.specs.Ready.{Ready}
@@ -31,11 +28,6 @@ later-turn : (n : ℕ) (t : Turn) (r : Run) → later n (summaryOf (before t r))
 later-turn n t r =
     let e : n + suc (length (r .turns)) ≡ n + 1 + length (r .turns) = omega arith in
     rw e
-
--- a turn's control part, made where the turn's change is known
-pub controlled : (o : Outcome) (x y : Control) (s : List ℕ) (k : Stores) (c : Cursor) (t : Turn) → x ≡ y →
-    turned o (machine y s k) c ≡ t → turned o (machine x s k) c ≡ t
-controlled o x y s k c t e h = ap (λ (z : Control). turned o (machine z s k) c) e ∙ h
 
 -- from m₀ and c₀, with the whole budget, to m and c: the run that is left makes the whole run's answer
 pub record Going (s : Streams) (budget : ℕ) (m₀ : Machine) (c₀ : Cursor) (m : Machine) (c : Cursor) (quiet turns : ℕ) : Type 0 where

@@ -9,7 +9,7 @@ use Rattle.machine.specs.declared.refusal.Outcome.the-variants.{Idle, Passed, S
 use Rattle.machine.specs.declared.refusal.Refusal.{Refusal}
 use Rattle.machine.specs.Machine.{Machine}
 use Rattle.machine.specs.Formed.{wellFormed}
-use Rattle.step_rules.specs.Unchanged.{hasPassed}
+use Rattle.offers.specs.Offer.{hasPassed}
 use Rattle.turns.specs.declared.cursor.Cursor.{Cursor}
 use Rattle.turns.specs.declared.ending.Ending.{Ending}
 use Rattle.turns.specs.declared.ending.Ending.the-variants.{Finished, Stuck, BudgetUsed, WordRefused, CallRefused}

@@ -7,7 +7,7 @@ use Rattle.machine.specs.declared.refusal.Outcome.{Outcome}
 use Rattle.machine.specs.declared.refusal.Outcome.the-variants.{Idle, Passed, Stalled, Refused}
 use Rattle.machine.specs.Machine.{Machine}
 use Rattle.step_rules.specs.Step.{offerOf}
-use Rattle.step_rules.specs.Unchanged.{hasPassed}
+use Rattle.offers.specs.Offer.{hasPassed}
 use Rattle.step_rules.proofs.Unchanged.{offer-unchanged}
 use Rattle.turns.specs.declared.cursor.Cursor.{Cursor}
 use Rattle.turns.specs.declared.streams.Offered.{Offered}

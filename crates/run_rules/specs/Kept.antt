@@ -5,7 +5,7 @@ use mathlib.Core.Bool.{true, false}
 use Rattle.machine.specs.declared.refusal.Refusal.{Refusal}
 use Rattle.machine.specs.Machine.{Machine}
 use Rattle.machine.specs.Formed.{wellFormed}
-use Rattle.step_rules.specs.Unchanged.{hasPassed}
+use Rattle.offers.specs.Offer.{hasPassed}
 use Rattle.turns.specs.declared.cursor.Cursor.{Cursor}
 use Rattle.turns.specs.declared.ending.Ending.the-variants.{CallRefused}
 use Rattle.turns.specs.Streams.{Streams}

@@ -9,7 +9,7 @@ fn semaphore(value: u8) -> Semaphore {
     Semaphore { value, maximum: 15 }
 }
 
-fn waiting(conditions: u16) -> Thread {
+fn waiting(conditions: u32) -> Thread {
     let wait = Wait::OnStall {
         block: 0,
         conditions,
@@ -21,7 +21,7 @@ fn waiting(conditions: u16) -> Thread {
 pub fn set_control(c: Control, set: u32) -> Control {
     let which = set % 8;
     let small = (set / 8 % 256) as u8;
-    let wide = (set / 8 % 65536) as u16;
+    let wide = set / 8 % 65536;
     let mut d = c;
     match which {
         1 => d.mutexes[7] = small,

@@ -1,85 +1,72 @@
-// The words of the scalar unit, which write a thread's own GPRs.
-ghost use mathlib.Core.Path.{_≡_};
-ghost use Prim.Native.Nat.{_*_, _<_};
-ghost use lib.ListN.{length};
-ghost use Rattle.bits.specs.Field.{field};
-ghost use Rattle.word_rules.specs.InRange.{OperandInRange, ScalarInRange};
-ghost use Rattle.effects.specs.Gprs.{operandOf, withHalf, afterSetDmaReg, afterAddDmaReg, afterMulDmaReg, scalarGprs};
-use machine::units::GprNumber;
-use machine::units::HalfRegister;
-use machine::units::gpr_place;
-use machine::units::half_place;
-use word_rules::instruction::Operand;
-use word_rules::instruction::ScalarWord;
+// The words of the scalar unit, offered: each is refused, stalled by its thread's wait, or writes the thread's own GPRs.
+mod registers;
 
-// A word with one of its halves replaced.
-fn with_half(half: HalfRegister, value: u16, x: u32) -> u32
-    ensures { λ r. ⌜ r ≡ withHalf half value x ⌝ }
-{
-    if half.is_high() {
-        return value as u32 * 65536 + x % 65536;
-    }
-    x / 65536 % 65536 * 65536 + value as u32
-}
+ghost use Prim.Native.Nat.{_<_};
+ghost use mathlib.Core.Path.{_≡_};
+ghost use lib.ListN.{length};
+ghost use Rattle.word_rules.specs.ScalarWords.{setDmaRegOf, addDmaRegOf, mulDmaRegOf};
+ghost use Rattle.word_rules.specs.Units.{scalarRows};
+ghost use Rattle.effects.specs.Offered.{GprsOffered};
+use crate::registers::write_half;
+use crate::registers::write_product;
+use crate::registers::write_sum;
+use machine::refusal::Outcome;
+use offers::stopped;
+use offers::verdict;
+use scalar_words::half;
+use scalar_words::operand_a;
+use scalar_words::operand_b;
+use scalar_words::result;
+use scalar_words::signals;
+use scalar_words::value;
 
 // SETDMAREG.
-fn set_dma_reg(gprs: &mut [u32], t: usize, half: HalfRegister, value: u16)
-    requires { ⌜ (length (now gprs) ≡ 192) × (t < 3) × (half .0 < 128) ⌝ }
-    ensures { λ _. ⌜ now (gprs .exit) ≡ afterSetDmaReg t half value (now (gprs .entry)) ⌝ }
+fn set_dma_reg(gprs: &mut [u32], t: usize, word: u32, stalls: bool) -> Outcome
+    requires { ⌜ (length (now gprs) ≡ 192) × (t < 3) ⌝ }
+    ensures { λ r. ⌜ GprsOffered stalls t (setDmaRegOf word) (now (gprs .entry)) r (now (gprs .exit)) ⌝ }
 {
-    let place = half_place(t, half);
-    gprs[place] = with_half(half, value, gprs[place]);
-}
-
-// The second operand of ADDDMAREG and MULDMAREG.
-fn operand_of(gprs: &[u32], t: usize, b: Operand) -> u32
-    requires { ⌜ (length (now gprs) ≡ 192) × (t < 3) × OperandInRange b ⌝ }
-    ensures { λ r. ⌜ r ≡ operandOf t b (now (gprs .entry)) ⌝ }
-{
-    match b {
-        Operand::Constant(n) => n as u32,
-        Operand::Register(g) => gprs[gpr_place(t, g)],
+    let bad = signals(word);
+    if stopped(bad, false, stalls) {
+        return verdict(bad, false, stalls);
     }
+    write_half(gprs, t, half(word), value(word));
+    Outcome::Passed
 }
 
 // ADDDMAREG.
-fn add_dma_reg(gprs: &mut [u32], t: usize, result: GprNumber, a: GprNumber, b: Operand)
-    requires { ⌜ (length (now gprs) ≡ 192) × (t < 3) × (result .0 < 64) × (a .0 < 64) × OperandInRange b ⌝ }
-    ensures { λ _. ⌜ now (gprs .exit) ≡ afterAddDmaReg t result a b (now (gprs .entry)) ⌝ }
+fn add_dma_reg(gprs: &mut [u32], t: usize, word: u32, stalls: bool) -> Outcome
+    requires { ⌜ (length (now gprs) ≡ 192) × (t < 3) ⌝ }
+    ensures { λ r. ⌜ GprsOffered stalls t (addDmaRegOf word) (now (gprs .entry)) r (now (gprs .exit)) ⌝ }
 {
-    let x = gprs[gpr_place(t, a)];
-    let y = operand_of(gprs, t, b);
-    let place = gpr_place(t, result);
-    gprs[place] = std::num::wrapping_add_u32(x, y);
-}
-
-// The low 16 bits of each, multiplied.
-fn low_product(x: u32, y: u32) -> u32
-    ensures { λ r. ⌜ r ≡ field 0 16 x * field 0 16 y ⌝ }
-{
-    (x % 65536) * (y % 65536)
+    if stalls {
+        return verdict(false, false, stalls);
+    }
+    write_sum(gprs, t, result(word), operand_a(word), operand_b(word));
+    Outcome::Passed
 }
 
 // MULDMAREG.
-fn mul_dma_reg(gprs: &mut [u32], t: usize, result: GprNumber, a: GprNumber, b: Operand)
-    requires { ⌜ (length (now gprs) ≡ 192) × (t < 3) × (result .0 < 64) × (a .0 < 64) × OperandInRange b ⌝ }
-    ensures { λ _. ⌜ now (gprs .exit) ≡ afterMulDmaReg t result a b (now (gprs .entry)) ⌝ }
+fn mul_dma_reg(gprs: &mut [u32], t: usize, word: u32, stalls: bool) -> Outcome
+    requires { ⌜ (length (now gprs) ≡ 192) × (t < 3) ⌝ }
+    ensures { λ r. ⌜ GprsOffered stalls t (mulDmaRegOf word) (now (gprs .entry)) r (now (gprs .exit)) ⌝ }
 {
-    let x = gprs[gpr_place(t, a)];
-    let y = operand_of(gprs, t, b);
-    let place = gpr_place(t, result);
-    gprs[place] = low_product(x, y);
+    if stalls {
+        return verdict(false, false, stalls);
+    }
+    write_product(gprs, t, result(word), operand_a(word), operand_b(word));
+    Outcome::Passed
 }
 
-// A word of the scalar unit. Internal: the store has its size, and the numbers are in range.
-pub fn scalar_word(gprs: &mut [u32], t: usize, word: ScalarWord)
-    requires { ⌜ (length (now gprs) ≡ 192) × (t < 3) × ScalarInRange word ⌝ }
-    ensures { λ _. ⌜ now (gprs .exit) ≡ scalarGprs word t (now (gprs .entry)) ⌝ }
+// A word with an opcode of the scalar unit, offered by thread t. Internal: the store has its size, and the thread is in range.
+pub fn scalar_word(gprs: &mut [u32], t: usize, op: u32, word: u32, stalls: bool) -> Outcome
+    requires { ⌜ (length (now gprs) ≡ 192) × (t < 3) ⌝ }
+    ensures { λ r. ⌜ GprsOffered stalls t (scalarRows op word) (now (gprs .entry)) r (now (gprs .exit)) ⌝ }
 {
-    match word {
-        ScalarWord::SetDmaReg { half, value } => set_dma_reg(gprs, t, half, value),
-        ScalarWord::AddDmaReg { result, a, b } => add_dma_reg(gprs, t, result, a, b),
-        ScalarWord::MulDmaReg { result, a, b } => mul_dma_reg(gprs, t, result, a, b),
-        ScalarWord::DmaNop => {}
+    match op {
+        0x45 => set_dma_reg(gprs, t, word, stalls),
+        0x58 => add_dma_reg(gprs, t, word, stalls),
+        0x5A => mul_dma_reg(gprs, t, word, stalls),
+        0x60 => verdict(false, false, stalls),
+        _ => verdict(true, false, stalls),
     }
 }

@@ -1,6 +1,10 @@
-// The words of the scalar unit. Bits i to j of a word are `(word >> i) % 2^(j - i + 1)`.
+// The words of the scalar unit: their fields, and what they say. Bits i to j of a word are `(word >> i) % 2^(j - i + 1)`.
 ghost use mathlib.Core.Path.{_≡_};
-ghost use Rattle.word_rules.specs.ScalarWords.{resultOf, operandAOf, operandBOf, setDmaRegOf, addDmaRegOf, mulDmaRegOf};
+ghost use Rattle.bits.specs.Field.{field, flag};
+ghost use Rattle.machine.specs.Units.{halfRegister};
+ghost use Rattle.word_rules.specs.ScalarWords.{resultOf, operandAOf, operandBOf};
+ghost use Rattle.word_rules.specs.Units.{scalarRows};
+use machine::refusal::Refusal;
 use machine::units::GprNumber;
 use machine::units::HalfRegister;
 use word_rules::instruction::Decoded;
@@ -9,33 +13,43 @@ use word_rules::instruction::Operand;
 use word_rules::instruction::ScalarWord;
 use word_rules::refused::decodes_unless;
 
-// SETDMAREG: the value is all 16 bits of 8–23; signal mode is refused.
-pub fn set_dma_reg(word: u32) -> Decoded
-    ensures { λ r. ⌜ r ≡ setDmaRegOf word ⌝ }
+// SETDMAREG: signal mode 7.
+pub fn signals(word: u32) -> bool
+    ensures { λ r. ⌜ r ≡ flag 7 word ⌝ }
 {
-    let signals = (word >> 7) % 2 == 1;
-    let half = HalfRegister(((word >> 0) % 128) as u8);
-    let value = ((word >> 8) % 65536) as u16;
-    let says = Instruction::Scalar(ScalarWord::SetDmaReg { half, value });
-    decodes_unless(signals, false, says)
+    (word >> 7) % 2 == 1
+}
+
+// SETDMAREG: half 0–6.
+pub fn half(word: u32) -> HalfRegister
+    ensures { λ r. ⌜ r ≡ halfRegister (field 0 7 word) ⌝ }
+{
+    HalfRegister(((word >> 0) % 128) as u8)
+}
+
+// SETDMAREG: value 8–23, all 16 bits.
+pub fn value(word: u32) -> u16
+    ensures { λ r. ⌜ r ≡ field 8 16 word ⌝ }
+{
+    ((word >> 8) % 65536) as u16
 }
 
 // Result 12–17.
-fn result(word: u32) -> GprNumber
+pub fn result(word: u32) -> GprNumber
     ensures { λ r. ⌜ r ≡ resultOf word ⌝ }
 {
     GprNumber(((word >> 12) % 64) as u8)
 }
 
 // A 0–5.
-fn operand_a(word: u32) -> GprNumber
+pub fn operand_a(word: u32) -> GprNumber
     ensures { λ r. ⌜ r ≡ operandAOf word ⌝ }
 {
     GprNumber(((word >> 0) % 64) as u8)
 }
 
 // B 6–11, by constant 23.
-fn operand_b(word: u32) -> Operand
+pub fn operand_b(word: u32) -> Operand
     ensures { λ r. ⌜ r ≡ operandBOf word ⌝ }
 {
     let b = ((word >> 6) % 64) as u8;
@@ -46,22 +60,25 @@ fn operand_b(word: u32) -> Operand
     }
 }
 
-// ADDDMAREG.
-pub fn add_dma_reg(word: u32) -> Decoded
-    ensures { λ r. ⌜ r ≡ addDmaRegOf word ⌝ }
+// What a word with an opcode of the scalar unit says; any other opcode is 2.
+pub fn decode_scalar(op: u32, word: u32) -> Decoded
+    ensures { λ r. ⌜ r ≡ scalarRows op word ⌝ }
 {
     let result = result(word);
     let a = operand_a(word);
     let b = operand_b(word);
-    Decoded::Decodes(Instruction::Scalar(ScalarWord::AddDmaReg { result, a, b }))
-}
-
-// MULDMAREG: the same fields.
-pub fn mul_dma_reg(word: u32) -> Decoded
-    ensures { λ r. ⌜ r ≡ mulDmaRegOf word ⌝ }
-{
-    let result = result(word);
-    let a = operand_a(word);
-    let b = operand_b(word);
-    Decoded::Decodes(Instruction::Scalar(ScalarWord::MulDmaReg { result, a, b }))
+    match op {
+        0x45 => decodes_unless(
+            signals(word),
+            false,
+            Instruction::Scalar(ScalarWord::SetDmaReg {
+                half: half(word),
+                value: value(word),
+            }),
+        ),
+        0x58 => Decoded::Decodes(Instruction::Scalar(ScalarWord::AddDmaReg { result, a, b })),
+        0x5A => Decoded::Decodes(Instruction::Scalar(ScalarWord::MulDmaReg { result, a, b })),
+        0x60 => Decoded::Decodes(Instruction::Scalar(ScalarWord::DmaNop)),
+        _ => Decoded::Rejects(Refusal::BadWord),
+    }
 }

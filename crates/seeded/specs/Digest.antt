@@ -1,5 +1,5 @@
 -- The digest of a whole machine: Adler-32 of every part, little-endian.
-use Prim.Native.Nat.{ℕ, _+_, _*_}
+use Prim.Native.Nat.{ℕ, _+_, _*_, _%_}
 use mathlib.Core.List.{List, _++_}
 use Rattle.bits.specs.Bytes.{enc}
 use Rattle.machine.specs.declared.control.Wait.{Wait}
@@ -17,10 +17,10 @@ semaphoreBytes s = enc 1 (s .value) ++ enc 1 (s .maximum)
 abbrev pub waitFields : ℕ → ℕ → ℕ → List ℕ
 waitFields kind block low = enc 1 kind ++ (enc 2 block ++ enc 2 low)
 
--- as in the image: kind 0 none, 1 stall, 2 semaphore; the low field is bits 0–14, or 0–9, of the word that set it
+-- as in the image: kind 0 none, 1 stall, 2 semaphore; the low field, two bytes of it, is bits 0–14, or 0–9, of the word that set it
 abbrev pub waitBytes : Wait → List ℕ
 waitBytes Clear = waitFields 0 0 0
-waitBytes (OnStall block conditions) = waitFields 1 block conditions
+waitBytes (OnStall block conditions) = waitFields 1 block (conditions % 65536)
 waitBytes (OnSemaphore block mask condition) = waitFields 2 block (mask * 4 + condition)
 
 abbrev pub waitsBytes : Control → List ℕ

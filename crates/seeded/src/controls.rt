@@ -60,7 +60,7 @@ fn wait(x: u32) -> Wait
         0 => Wait::Clear,
         1 => Wait::OnStall {
             block,
-            conditions: low % 32768,
+            conditions: (low % 32768) as u32,
         },
         _ => Wait::OnSemaphore {
             block,

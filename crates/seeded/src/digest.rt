@@ -48,7 +48,7 @@ fn add_wait(s: Sums, w: Wait) -> Sums
 {
     match w {
         Wait::Clear => add_fields(s, 0, 0, 0),
-        Wait::OnStall { block, conditions } => add_fields(s, 1, block, conditions),
+        Wait::OnStall { block, conditions } => add_fields(s, 1, block, (conditions % 65536) as u16),
         Wait::OnSemaphore {
             block,
             mask,

@@ -41,7 +41,7 @@ fn with_pointer(c: Control, bank: u8) -> Control
     d
 }
 
-fn with_stall(c: Control, t: usize, block: u16, conditions: u16) -> Control
+fn with_stall(c: Control, t: usize, block: u16, conditions: u32) -> Control
     requires { ⌜ t < 3 ⌝ }
     ensures { λ r. ⌜ r ≡ stallSet c t block conditions ⌝ }
 {

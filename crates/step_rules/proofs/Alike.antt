@@ -8,8 +8,7 @@ use Rattle.word_rules.specs.declared.instruction.Instruction.{Instruction}
 use Rattle.word_rules.specs.declared.instruction.Decoded.{Decoded}
 use Rattle.word_rules.specs.declared.instruction.Decoded.the-variants.{Decodes, Rejects}
 use Rattle.word_rules.specs.Decode.{decodeOf}
-use Rattle.gate.specs.declared.Gate.{Gate}
-use Rattle.gate.specs.declared.Gate.the-variants.{Open, Closed}
+use Rattle.offers.specs.Offer.{Gate, Open, Closed}
 use Rattle.gate.specs.Gate.{gateOf}
 use Rattle.control.specs.After.{controlAfter}
 use Rattle.effects.specs.After.{settingsAfter}

@@ -15,8 +15,7 @@ use Rattle.word_rules.specs.declared.instruction.Decoded.the-variants.{Decodes,
 use Rattle.word_rules.specs.Decode.{decodeOf}
 use Rattle.word_rules.specs.InRange.{InRange, DecodedInRange}
 use Rattle.word_rules.proofs.InRange.{decode-in-range}
-use Rattle.gate.specs.declared.Gate.{Gate}
-use Rattle.gate.specs.declared.Gate.the-variants.{Open, Closed}
+use Rattle.offers.specs.Offer.{Gate, Open, Closed}
 use Rattle.banks.specs.Owners.{matrixBank}
 use Rattle.gate.specs.Gate.{gateOf}
 use Rattle.control.proofs.Keeps.{control-after-formed}

@@ -8,13 +8,13 @@ use Rattle.word_rules.specs.declared.instruction.Instruction.{Instruction}
 use Rattle.word_rules.specs.declared.instruction.Decoded.{Decoded}
 use Rattle.word_rules.specs.declared.instruction.Decoded.the-variants.{Decodes, Rejects}
 use Rattle.word_rules.specs.Decode.{decodeOf}
-use Rattle.gate.specs.declared.Gate.{Gate}
-use Rattle.gate.specs.declared.Gate.the-variants.{Open, Closed}
+use Rattle.offers.specs.Offer.{Gate, Open, Closed}
 use Rattle.gate.specs.Gate.{gateOf}
 use Rattle.step_rules.specs.declared.CallCheck.{CallCheck}
 use Rattle.step_rules.specs.declared.CallCheck.the-variants.{Fine, Refuses}
 use Rattle.step_rules.specs.Step.{byGate, gatedOf, byDecoded, offerOf, checkOf, byCheck, stepOf}
-use Rattle.step_rules.specs.Unchanged.{hasPassed, Unchanged}
+use Rattle.offers.specs.Offer.{hasPassed}
+use Rattle.step_rules.specs.Unchanged.{Unchanged}
 
 module _ (m : Machine) (t : ℕ) where
   gated : (i : Instruction) (g : Gate) → hasPassed (byGate m t i g .outcome) ≡ false → byGate m t i g .after ≡ m

@@ -1,78 +1,27 @@
--- The ways that a word can go, as equations of the definitions, for the code that takes them.
+-- The ways that a call of one word can go, as equations of the definitions, for the code that takes them.
 use Prim.Native.Nat.{ℕ, _<_, _≤_}
-use mathlib.Core.Path.{_≡_, refl, sym, ap, _∙_, subst}
+use mathlib.Core.Path.{_≡_, refl, sym, ap, _∙_}
 use mathlib.Core.Bool.{Bool, true, false, cond, not}
-use mathlib.Core.List.{List}
 use native.Mathlib.Omega.{arith}
 use lib.Dec.{ltb}
 use borrow.Author.Tests.{ltb-true, lt-ltb, le-ltb, not-true, not-false}
 use Rattle.bits.proofs.Choices.{and-left}
-use Rattle.machine.specs.declared.control.Control.{Control}
-use Rattle.machine.specs.declared.refusal.StallCause.{StallCause}
-use Rattle.machine.specs.declared.refusal.Outcome.the-variants.{Passed, Stalled, Refused}
+use Rattle.machine.specs.declared.refusal.Outcome.the-variants.{Refused}
 use Rattle.machine.specs.declared.refusal.Refusal.{Refusal}
 use Rattle.machine.specs.declared.refusal.Refusal.the-variants.{BadThread, BadLength, Malformed}
-use Rattle.machine.specs.Machine.{Machine, Stores, machine}
+use Rattle.machine.specs.Machine.{Machine}
 use Rattle.machine.specs.Formed.{sized, formed, controlFormed}
 use Rattle.machine.specs.Numbers.{outcomeNumbers}
-use Rattle.word_rules.specs.declared.instruction.Instruction.{Instruction}
 use Rattle.word_rules.specs.declared.instruction.Decoded.{Decoded}
-use Rattle.word_rules.specs.declared.instruction.Decoded.the-variants.{Decodes, Rejects}
 use Rattle.word_rules.specs.Decode.{decodeOf}
-use Rattle.word_rules.specs.InRange.{InRange, DecodedInRange}
-use Rattle.word_rules.proofs.InRange.{decode-in-range}
-use Rattle.gate.specs.declared.Gate.{Gate}
-use Rattle.gate.specs.declared.Gate.the-variants.{Open, Closed}
-use Rattle.banks.specs.Owners.{matrixBank}
-use Rattle.machine.specs.declared.refusal.StallCause.the-variants.{WaitHolds}
-use Rattle.machine.specs.Control.{waitOf}
-use Rattle.gate.specs.Gate.{waitStalls, wordGate, gateOf}
-use Rattle.gate.proofs.Decides.{stall-closes, word-decides}
-use Rattle.control.specs.After.{controlAfter}
-use Rattle.effects.specs.After.{settingsAfter, storesAfter}
 use Rattle.step_rules.specs.declared.CallCheck.{CallCheck}
 use Rattle.step_rules.specs.declared.CallCheck.the-variants.{Fine, Refuses}
-use Rattle.step_rules.specs.Step.{Step, stepped, machineAfter, passOf, byGate, gatedOf, byDecoded, offerOf, checkOf, byCheck, stepOf}
+use Rattle.step_rules.specs.Step.{Step, stepped, byDecoded, offerOf, checkOf, byCheck, stepOf}
 
-pub passes : (m : Machine) (t : ℕ) (i : Instruction) (c : Control) (s : List ℕ) (k : Stores) → c ≡ controlAfter (m .control) t i →
-    s ≡ settingsAfter i t (m .settings) → k ≡ storesAfter i t (matrixBank (m .control) 0) (matrixBank (m .control) 1) (m .settings) (m .kept) →
-    stepped Passed (machine c s k) ≡ passOf m t i
-unfolding machineAfter
-passes m t i c s k p q r = rw (p, q, r)
-
-module _ (m : Machine) (t : ℕ) (i : Instruction) (g : Gate) (e : g ≡ wordGate (m .control) t i) where
-  by-gate : byGate m t i (wordGate (m .control) t i) ≡ byGate m t i g
-  by-gate = ap (λ (x : Gate). byGate m t i x) (sym e)
-
-  pub gate-closed : (k : StallCause) → g ≡ Closed k → stepped (Stalled k) m ≡ byGate m t i (wordGate (m .control) t i)
-  gate-closed k h = sym (by-gate ∙ ap (λ (x : Gate). byGate m t i x) h)
-
-  pub gate-open : (s : Step) → g ≡ Open → s ≡ passOf m t i → s ≡ byGate m t i (wordGate (m .control) t i)
-  gate-open s h p = p ∙ sym (by-gate ∙ ap (λ (x : Gate). byGate m t i x) h)
-
--- the wait's test goes by a name
-module _ (m : Machine) (t : ℕ) (i : Instruction) (b : Bool) (e : b ≡ waitStalls (m .control) (waitOf (m .control) t) i) where
-  pub wait-stalls : b ≡ true → stepped (Stalled WaitHolds) m ≡ gatedOf m t i
-  unfolding gatedOf
-  wait-stalls h = ap (λ (x : Gate). byGate m t i x) (stall-closes (m .control) t i b e h)
-
-  pub no-stall : (s : Step) → b ≡ false → s ≡ byGate m t i (wordGate (m .control) t i) → s ≡ gatedOf m t i
-  unfolding gatedOf
-  no-stall s h p = p ∙ ap (λ (x : Gate). byGate m t i x) (sym (word-decides (m .control) t i b e h))
-
-module _ (m : Machine) (t w : ℕ) (d : Decoded) (e : d ≡ decodeOf w) where
-  by-decoded : offerOf m t w ≡ byDecoded m t d
-  unfolding offerOf
-  by-decoded = ap (λ (x : Decoded). byDecoded m t x) (sym e)
-
-  pub word-refused : (r : Refusal) → d ≡ Rejects r → stepped (Refused r) m ≡ offerOf m t w
-  word-refused r h = sym (by-decoded ∙ ap (λ (x : Decoded). byDecoded m t x) h)
-
-  pub word-decoded : (i : Instruction) (s : Step) → d ≡ Decodes i → s ≡ gatedOf m t i → s ≡ offerOf m t w
-  word-decoded i s h p = p ∙ sym (by-decoded ∙ ap (λ (x : Decoded). byDecoded m t x) h)
-
-pub decoded-range : (w : ℕ) (d : Decoded) (i : Instruction) → d ≡ decodeOf w → d ≡ Decodes i → InRange i
-decoded-range w d i e h = subst (λ (x : Decoded). DecodedInRange x) (sym e ∙ h) (decode-in-range w)
+-- a word offered, by what it says
+pub offered-as : (m : Machine) (t w : ℕ) (x : Decoded) → decodeOf w ≡ x → byDecoded m t x ≡ offerOf m t w
+unfolding offerOf
+offered-as m t w x e = ap (λ (y : Decoded). byDecoded m t y) (sym e)
 
 module _ (m : Machine) (t : ℕ) (k : CallCheck) (e : k ≡ checkOf m t) where
   by-check : (w : ℕ) → stepOf m t w ≡ byCheck m t w k

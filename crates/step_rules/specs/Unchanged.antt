@@ -1,17 +1,10 @@
 -- A word that does not pass changes nothing.
 use Prim.Native.Nat.{ℕ}
 use mathlib.Core.Path.{_≡_}
-use mathlib.Core.Bool.{Bool, true, false}
-use Rattle.machine.specs.declared.refusal.Outcome.{Outcome}
-use Rattle.machine.specs.declared.refusal.Outcome.the-variants.{Idle, Passed, Stalled, Refused}
+use mathlib.Core.Bool.{false}
 use Rattle.machine.specs.Machine.{Machine}
+use Rattle.offers.specs.Offer.{hasPassed}
 use Rattle.step_rules.specs.Step.{offerOf, stepOf}
-
-abbrev pub hasPassed : Outcome → Bool
-hasPassed Idle = false
-hasPassed Passed = true
-hasPassed (Stalled cause) = false
-hasPassed (Refused r) = false
 
 pub record Unchanged : Type 0 where
   -- "a stall changes nothing", nor does a refused word

@@ -3,6 +3,7 @@ ghost use Prim.Native.Nat.{_+_, _≤_, _<_};
 ghost use lib.ListN.{length};
 use crate::input::cases_end;
 use crate::lines::write_line;
+use control::Stepped;
 use faults::Short;
 use faults::lent_length;
 use faults::set_cell;
@@ -19,7 +20,6 @@ use seeded::controls::draw_control;
 use seeded::digest::digest;
 use seeded::limits::at_limit;
 use seeded::whole::fill_machine;
-use step::Stepped;
 
 // How much there is of a part but its last number.
 fn all_but_one(part: u32) -> usize {

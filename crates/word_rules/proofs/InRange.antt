@@ -7,7 +7,7 @@ use lib.Dec.{eqb, ltb}
 use borrow.Author.Needs.{needs}
 use borrow.Author.Tests.{ltb-false, leb-false}
 use Rattle.bits.specs.Field.{field, flag}
-use Rattle.bits.proofs.Choices.{cond-both, cond-cases}
+use Rattle.bits.proofs.Choices.{neither, cond-both, cond-cases}
 use Rattle.word_rules.specs.declared.instruction.Instruction.{Instruction}
 use Rattle.word_rules.specs.Refused.{decodesUnless}
 use Rattle.word_rules.specs.ScalarWords.{operandBOf}
@@ -21,11 +21,7 @@ unless-in-range : (badWord badField : Bool) (i : Instruction) → (badField ≡ 
 unless-in-range badWord badField i fits =
     cond-both DecodedInRange badWord tt (cond-cases DecodedInRange badField (λ h. tt) fits)
 
-neither : (a b : Bool) → (a || b) ≡ false → (a ≡ false) × (b ≡ false)
-neither true b h = let z : _≡_ {A = ℕ} 0 1 = cc in absurd (omega arith)
-neither false b h = (refl, h)
-
-operand-b-in-range : (w : ℕ) → OperandInRange (operandBOf w)
+pub operand-b-in-range : (w : ℕ) → OperandInRange (operandBOf w)
 operand-b-in-range w = cond-both OperandInRange (flag 23 w) (search needs) (search needs)
 
 rd-cfg-in-range : (w : ℕ) → DecodedInRange (rdCfgOf w)
@@ -34,7 +30,7 @@ rd-cfg-in-range w =
     let i = ltb 255 (field 0 11 w) in
     unless-in-range false (g || i) _ (λ h. let n = neither g i h in search needs)
 
-place-in-view : (mode : ℕ) (wide : Bool) (place : ℕ) → placePast (viewRows wide) mode place ≡ false → PlaceInView mode wide place
+pub place-in-view : (mode : ℕ) (wide : Bool) (place : ℕ) → placePast (viewRows wide) mode place ≡ false → PlaceInView mode wide place
 place-in-view mode wide place h =
     record {
       row = λ e. leb-false (viewRows wide) place (rw e at h);

@@ -1,2 +1,4 @@
 pub mod InRange
 pub mod Examples
+pub mod Units
+pub mod Only

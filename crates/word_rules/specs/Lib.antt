@@ -4,4 +4,5 @@ pub mod SyncWords
 pub mod ConfigWords
 pub mod MatrixWords
 pub mod Decode
+pub mod Units
 pub mod InRange

@@ -30,9 +30,9 @@ pub enum ScalarWord {
 
 // A word of the sync unit, block bit B1.
 pub enum SyncWord {
-    AtGetM { mutex: u8 },
-    AtRelM { mutex: u8 },
-    StallWait { block: u16, conditions: u16 },
+    AtGetM { mutex: u16 },
+    AtRelM { mutex: u16 },
+    StallWait { block: u16, conditions: u32 },
     SemInit { maximum: u8, value: u8, mask: u8 },
     SemPost { mask: u8 },
     SemGet { mask: u8 },

@@ -3,8 +3,14 @@ use Rattle.config_words.proofs.rd_cfg.Statement.{statement}
 use Rattle.config_words.proofs.rd_cfg.Tie as tie
 
 returns : tie.Need-returns
-returns c = rw (c .before .either .ensures) at (c .decodes-unless .ensures)
+returns c = rw (c .before .target-or-index-past .ensures, c .before .before .before .target .ensures, c .before .before .index .ensures) at (c .decodes-unless .ensures)
 
 pub rd-cfg-spec : {M : Type 1} → statement M
 rd-cfg-spec =
-    tie.close (tie.spec (λ c. search needs) (λ c. search needs) (λ c κs. search needs) (λ c κs. search needs) returns)
+    tie.close
+    (tie.spec
+    (λ c κs. search needs)
+    (λ c κs. search needs)
+    (λ c κs. search needs)
+    (λ c κs. search needs)
+    returns)

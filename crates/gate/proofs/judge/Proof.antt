@@ -1,20 +1,32 @@
-use mathlib.Core.Path.{sym, _∙_}
-use Rattle.machine.specs.Control.{waitOf}
-use Rattle.gate.proofs.Judging.{wait-holds, wait-lifted, no-wait}
+use mathlib.Core.Path.{refl}
+use Rattle.gate.proofs.Decides.{judged-wait}
 use borrow.Author.Needs.{needs}
 use Rattle.gate.proofs.judge.Statement.{statement}
 use Rattle.gate.proofs.judge.Tie as tie
 
 returns : tie.Need-returns
-returns c = wait-holds (c .before .before .before .before .before .args .c) (waitOf (c .before .before .before .before .before .args .c) (c .before .before .before .before .before .args .t)) (c .before .before .before .before .before .args .i) (c .thread-named .result) (sym (c .before .before .thread-holds .ensures) ∙ c .before .if2 .taken) (c .thread-named .ensures)
+returns c = judged-wait _ _ (c .before .before .thread-of .result) _ _ _ (c .before .before .thread-of .ensures) (c .enum-told .given .1) (refl, refl)
 
 returns-2 : tie.Need-returns-2
-returns-2 c = wait-lifted (c .before .before .before .before .args .c) (waitOf (c .before .before .before .before .args .c) (c .before .before .before .before .args .t)) (c .before .before .before .before .args .i) (sym (c .before .before .before .has-wait .ensures) ∙ c .before .before .if1 .taken) (sym (c .before .thread-holds .ensures) ∙ c .if2 .left)
+returns-2 c = judged-wait _ _ (c .before .before .before .before .before .thread-of .result) _ _ _ (c .before .before .before .before .before .thread-of .ensures) (c .before .before .before .wait .given .1)
+    (rw (c .before .stall-holds .ensures) at (c .judged-by .ensures))
 
 returns-3 : tie.Need-returns-3
-returns-3 c = no-wait (c .before .before .args .c) (waitOf (c .before .before .args .c) (c .before .before .args .t)) (c .before .before .args .i) (sym (c .before .has-wait .ensures) ∙ c .if1 .left)
+returns-3 c = judged-wait _ _ (c .before .before .before .before .before .before .thread-of .result) _ _ _ (c .before .before .before .before .before .before .thread-of .ensures) (c .before .before .before .before .wait2 .given .1)
+    (rw (c .before .some-meets .ensures) at (c .judged-by2 .ensures))
 
 pub judge-spec : {M : Type 1} → statement M
 judge-spec =
     tie.close
-    (tie.spec (λ c κs. search needs) (λ c κs. search needs) (λ c κs. search needs) returns returns-2 returns-3)
+    (tie.spec
+    (λ c κs. search needs)
+    (λ c. search needs)
+    (λ c. search needs)
+    (λ c κs. search needs)
+    (λ c κs. search needs)
+    (λ c. search needs)
+    (λ c κs. search needs)
+    (λ c κs. search needs)
+    returns
+    returns-2
+    returns-3)

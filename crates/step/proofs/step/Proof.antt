@@ -5,20 +5,14 @@ use Rattle.step.proofs.step.Statement.{statement}
 use Rattle.step.proofs.step.Tie as tie
 
 offer-requires : tie.Need-offer-requires
-offer-requires c κs =
-    let f = fine-shows _ _ (sym (c .before .before .before .before .before .before .before .before .check-call .ensures) ∙ c .before .before .before .before .before .before .enum-told .given .1) in
+offer-requires c κs = let f = fine-shows _ _ (sym (c .before .before .before .before .before .before .before .before .check-call .ensures) ∙ c .before .before .before .before .before .before .enum-told .given .1) in
     (f .sizes, f .control, f .thread)
-
-changed-requires : tie.Need-changed-requires
-changed-requires c κs =
-    let f = fine-shows _ _ (sym (c .before .before .before .before .before .before .before .before .before .before .before .before .before .before .before .before .before .before .before .before .before .check-call .ensures) ∙ c .before .before .before .before .before .before .before .before .before .before .before .before .before .before .before .before .before .before .before .enum-told .given .1) in
-    (f .control, f .thread, c .before .before .before .before .before .before .before .before .before .before .before .before .offer .ensures .1)
 
 returns : tie.Need-returns
 returns c = numbered _ _ (call-refused _ _ (c .before .before .before .check-call .result) (c .before .before .before .check-call .ensures) _ _ (c .before .k .given .1))
 
 returns-2 : tie.Need-returns-2
-returns-2 c = numbered _ _ (call-offered _ _ (c .before .before .before .before .before .before .before .before .before .before .before .before .before .before .before .before .before .before .before .before .before .before .check-call .result) (c .before .before .before .before .before .before .before .before .before .before .before .before .before .before .before .before .before .before .before .before .before .before .check-call .ensures) _ _ (c .before .before .before .before .before .before .before .before .before .before .before .before .before .before .before .before .before .before .before .before .enum-told .given .1) (rw (c .changed .ensures) (c .before .before .before .before .before .before .before .before .before .before .before .before .before .offer .ensures .0)))
+returns-2 c = numbered _ _ (call-offered _ _ (c .before .before .before .before .before .before .before .before .before .before .before .before .before .before .before .before .before .before .before .before .before .check-call .result) (c .before .before .before .before .before .before .before .before .before .before .before .before .before .before .before .before .before .before .before .before .before .check-call .ensures) _ _ (c .before .before .before .before .before .before .before .before .before .before .before .before .before .before .before .before .before .before .before .enum-told .given .1) (c .before .before .before .before .before .before .before .before .before .before .before .before .offer .ensures))
 
 pub step-spec : {M : Type 1} → statement M
 step-spec =
@@ -28,7 +22,6 @@ step-spec =
     (λ c. search needs)
     (λ c. search needs)
     offer-requires
-    changed-requires
     (λ c. search needs)
     (λ c. search needs)
     (λ c. search needs)

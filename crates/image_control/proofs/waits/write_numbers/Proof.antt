@@ -6,7 +6,7 @@ use Rattle.image_control.proofs.waits.write_numbers.Statement.{statemen
 use Rattle.image_control.proofs.waits.write_numbers.Tie as tie
 
 returns : tie.Need-returns
-returns c = let a = c .before .before .before .before .before .before .before .before .before .before .before .before .before .args in wrote-to (a .at + 5) (omega arith) (wrote-then (omega arith) (c .before .before .before .before .before .before .before .before .before .before .write .ensures) (wrote-then (omega (arith, c .before .before .before .before .before .before .before .before .before .before .write .kept .0)) (c .before .before .before .before .before .before .write-half .ensures) (wrote-from (a .at + 3) (omega arith) (c .before .before .write-half2 .ensures))))
+returns c = let a = c .before .before .before .before .before .before .before .before .before .before .before .before .before .args in wrote-to (a .at + 5) (omega arith) (wrote-then (omega arith) (c .before .before .before .before .before .before .before .before .before .before .write .ensures) (wrote-then (omega (arith, c .before .before .before .before .before .before .before .before .before .before .write .kept .0)) (c .before .before .before .before .before .before .write-half .ensures) (wrote-from (a .at + 3) (omega arith) (c .before .before .write2 .ensures))))
 
 pub write-numbers-spec : {M : Type 1} → statement M
 write-numbers-spec =

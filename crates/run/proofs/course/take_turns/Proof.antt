@@ -1,6 +1,5 @@
-use Rattle.run_rules.proofs.Going.{Going, controlled, going-start, going-ends, going-refused, going-on}
+use Rattle.run_rules.proofs.Going.{Going, going-start, going-ends, going-refused, going-on}
 use Rattle.run_rules.proofs.Halting.{turn-due}
-use Rattle.run_rules.proofs.Turning.{ready-offer}
 use Rattle.turns.specs.Streams.{streams}
 use Rattle.machine.specs.Machine.{machine, stores}
 use borrow.Author.Needs.{needs}
@@ -15,7 +14,6 @@ use Rattle.turns.proofs.ending.halted.Reads as halted-reads
 use Rattle.turns.proofs.ending.quiet_after.Reads as quiet-after-reads
 use Rattle.turns.proofs.ending.refused_word.Reads as refused-word-reads
 use Rattle.run.proofs.turn.turn.Reads as turn-reads
-use Rattle.control.proofs.after.changed.Reads as changed-reads
 
 abbrev Inv-loop : tie.InvT-loop
 Inv-loop settings₀ gprs₀ config₀ dest marks₀ src-a₀ src-b₀ s0 s1 s2 budget k₀ c₀ quiet₀ turns₀ settings gprs config marks src-a src-b k c quiet turns =
@@ -76,15 +74,9 @@ enum-told c = search needs
 turn-requires : tie.Need-turn-requires Inv-loop μ-loop
 turn-requires c κs = c .before .before .before .before .before .before .before .before .before .loop .inv .ready
 
-cast-thread : tie.Need-cast-thread Inv-loop μ-loop
-cast-thread c = search needs
-
-changed-requires : tie.Need-changed-requires Inv-loop μ-loop
-changed-requires c κs = let r = ready-offer _ _ _ (c .before .before .before .before .before .before .before .before .before .before .before .before .before .before .before .before .before .before .before .before .before .before .before .loop .inv .ready) in (r .1, r .2, c .before .before .before .before .before .before .before .before .before .before .before .before .before .turn .ensures .1)
-
 -- src/course.rt:55:9
 add-turns : tie.Need-add-turns Inv-loop μ-loop
-add-turns c = omega (arith, c .before .before .before .before .before .before .before .before .before .before .before .before .before .before .before .before .before .before .before .before .before .before .before .before .before .loop .inv .within, c .before .before .before .before .before .before .before .before .before .before .before .before .before .before .before .before .before .before .before .before .before .before .before .before .before .before .before .before .before .before .before .before .before .before .before .before .fits .budget, turn-due _ _ _ _ (sym (c .before .before .before .before .before .before .before .before .before .before .before .before .before .before .before .before .before .before .before .before .before .before .before .before .halted .ensures) ∙ c .before .before .before .before .before .before .before .before .before .before .before .before .before .before .before .before .before .before .before .before .before .before .enum-told .given .1) .some)
+add-turns c = omega (arith, c .before .before .before .before .before .before .before .before .before .before .before .before .before .before .before .before .before .before .before .before .before .before .before .before .loop .inv .within, c .before .before .before .before .before .before .before .before .before .before .before .before .before .before .before .before .before .before .before .before .before .before .before .before .before .before .before .before .before .before .before .before .before .before .before .fits .budget, turn-due _ _ _ _ (sym (c .before .before .before .before .before .before .before .before .before .before .before .before .before .before .before .before .before .before .before .before .before .before .before .halted .ensures) ∙ c .before .before .before .before .before .before .before .before .before .before .before .before .before .before .before .before .before .before .before .before .before .enum-told .given .1) .some)
 
 -- src/course.rt:56:13
 refused-word-requires : tie.Need-refused-word-requires Inv-loop μ-loop
@@ -96,46 +88,46 @@ enum-known-e c = search needs
 
 -- src/course.rt:58:13
 same-length-7 : tie.Need-same-length-7 Inv-loop μ-loop
-same-length-7 c = let g = c .before .before .before .before .before .before .before .before .before .before .before .before .before .before .before .before .before .before .before .before .before .before .before .before .before .before .before .before .before .loop .inv in let k = c .before .before .before .before .before .before .before .before .before .before .before .before .before .before .before .before .before .before .before .turn .kept in omega arith
+same-length-7 c = let g = c .before .before .before .before .before .before .before .before .before .before .before .before .before .before .before .before .before .before .before .before .before .before .before .before .before .before .before .before .loop .inv in let k = c .before .before .before .before .before .before .before .before .before .before .before .before .before .before .before .before .before .before .turn .kept in omega arith
 
 -- src/course.rt:58:13
 same-length-8 : tie.Need-same-length-8 Inv-loop μ-loop
-same-length-8 c = let g = c .before .before .before .before .before .before .before .before .before .before .before .before .before .before .before .before .before .before .before .before .before .before .before .before .before .before .before .before .before .loop .inv in let k = c .before .before .before .before .before .before .before .before .before .before .before .before .before .before .before .before .before .before .before .turn .kept in omega arith
+same-length-8 c = let g = c .before .before .before .before .before .before .before .before .before .before .before .before .before .before .before .before .before .before .before .before .before .before .before .before .before .before .before .before .loop .inv in let k = c .before .before .before .before .before .before .before .before .before .before .before .before .before .before .before .before .before .before .turn .kept in omega arith
 
 -- src/course.rt:58:13
 same-length-9 : tie.Need-same-length-9 Inv-loop μ-loop
-same-length-9 c = let g = c .before .before .before .before .before .before .before .before .before .before .before .before .before .before .before .before .before .before .before .before .before .before .before .before .before .before .before .before .before .loop .inv in let k = c .before .before .before .before .before .before .before .before .before .before .before .before .before .before .before .before .before .before .before .turn .kept in omega arith
+same-length-9 c = let g = c .before .before .before .before .before .before .before .before .before .before .before .before .before .before .before .before .before .before .before .before .before .before .before .before .before .before .before .before .loop .inv in let k = c .before .before .before .before .before .before .before .before .before .before .before .before .before .before .before .before .before .before .turn .kept in omega arith
 
 -- src/course.rt:58:13
 same-length-10 : tie.Need-same-length-10 Inv-loop μ-loop
-same-length-10 c = let g = c .before .before .before .before .before .before .before .before .before .before .before .before .before .before .before .before .before .before .before .before .before .before .before .before .before .before .before .before .before .loop .inv in let k = c .before .before .before .before .before .before .before .before .before .before .before .before .before .before .before .before .before .before .before .turn .kept in omega arith
+same-length-10 c = let g = c .before .before .before .before .before .before .before .before .before .before .before .before .before .before .before .before .before .before .before .before .before .before .before .before .before .before .before .before .loop .inv in let k = c .before .before .before .before .before .before .before .before .before .before .before .before .before .before .before .before .before .before .turn .kept in omega arith
 
 -- src/course.rt:58:13
 same-length-11 : tie.Need-same-length-11 Inv-loop μ-loop
-same-length-11 c = let g = c .before .before .before .before .before .before .before .before .before .before .before .before .before .before .before .before .before .before .before .before .before .before .before .before .before .before .before .before .before .loop .inv in let k = c .before .before .before .before .before .before .before .before .before .before .before .before .before .before .before .before .before .before .before .turn .kept in omega arith
+same-length-11 c = let g = c .before .before .before .before .before .before .before .before .before .before .before .before .before .before .before .before .before .before .before .before .before .before .before .before .before .before .before .before .loop .inv in let k = c .before .before .before .before .before .before .before .before .before .before .before .before .before .before .before .before .before .before .turn .kept in omega arith
 
 -- src/course.rt:58:13
 same-length-12 : tie.Need-same-length-12 Inv-loop μ-loop
-same-length-12 c = let g = c .before .before .before .before .before .before .before .before .before .before .before .before .before .before .before .before .before .before .before .before .before .before .before .before .before .before .before .before .before .loop .inv in let k = c .before .before .before .before .before .before .before .before .before .before .before .before .before .before .before .before .before .before .before .turn .kept in omega arith
+same-length-12 c = let g = c .before .before .before .before .before .before .before .before .before .before .before .before .before .before .before .before .before .before .before .before .before .before .before .before .before .before .before .before .loop .inv in let k = c .before .before .before .before .before .before .before .before .before .before .before .before .before .before .before .before .before .before .turn .kept in omega arith
 
 -- src/course.rt:58:13
 returns-2 : tie.Need-returns-2 Inv-loop μ-loop
-returns-2 c = going-refused _ _ _ _ _ _ _ _ (c .before .before .before .before .before .before .before .before .before .before .before .before .before .before .before .before .before .before .before .before .before .before .before .before .before .before .before .before .before .loop .inv) (c .before .before .before .before .before .before .before .before .before .before .before .before .before .before .before .before .before .before .before .before .before .before .before .before .before .before .before .before .halted .result) (c .before .before .before .before .before .before .before .before .before .before .before .before .before .before .before .before .before .before .before .before .before .before .before .before .before .before .before .before .halted .ensures) (c .before .before .before .before .before .before .before .before .before .before .before .before .before .before .before .before .before .before .before .before .before .before .before .before .before .before .enum-told .given .1) _ (controlled _ _ _ _ _ _ _ (c .before .before .before .before .before .changed .ensures) (c .before .before .before .before .before .before .before .before .before .before .before .before .before .before .before .before .before .before .before .turn .ensures .0)) (c .before .before .before .refused-word .result) (c .before .before .before .refused-word .ensures) _ (c .before .e .given .1)
+returns-2 c = going-refused _ _ _ _ _ _ _ _ (c .before .before .before .before .before .before .before .before .before .before .before .before .before .before .before .before .before .before .before .before .before .before .before .before .before .before .before .before .loop .inv) (c .before .before .before .before .before .before .before .before .before .before .before .before .before .before .before .before .before .before .before .before .before .before .before .before .before .before .before .halted .result) (c .before .before .before .before .before .before .before .before .before .before .before .before .before .before .before .before .before .before .before .before .before .before .before .before .before .before .before .halted .ensures) (c .before .before .before .before .before .before .before .before .before .before .before .before .before .before .before .before .before .before .before .before .before .before .before .before .before .enum-told .given .1) _ (c .before .before .before .before .before .before .before .before .before .before .before .before .before .before .before .before .before .before .turn .ensures) (c .before .before .before .refused-word .result) (c .before .before .before .refused-word .ensures) _ (c .before .e .given .1)
 
 enum-told-2 : tie.Need-enum-told-2 Inv-loop μ-loop
 enum-told-2 c = search needs
 
 -- src/course.rt:65:9
 quiet-after-requires : tie.Need-quiet-after-requires Inv-loop μ-loop
-quiet-after-requires c κs = turn-due _ _ _ _ (sym (c .before .before .before .before .before .before .before .before .before .before .before .before .before .before .before .before .before .before .before .before .before .before .before .before .before .before .before .halted .ensures) ∙ c .before .before .before .before .before .before .before .before .before .before .before .before .before .before .before .before .before .before .before .before .before .before .before .before .before .enum-told .given .1) .few
+quiet-after-requires c κs = turn-due _ _ _ _ (sym (c .before .before .before .before .before .before .before .before .before .before .before .before .before .before .before .before .before .before .before .before .before .before .before .before .before .before .halted .ensures) ∙ c .before .before .before .before .before .before .before .before .before .before .before .before .before .before .before .before .before .before .before .before .before .before .before .before .enum-told .given .1) .few
 
 -- src/course.rt:39:5
 loop-less : tie.Need-loop-less Inv-loop μ-loop
-loop-less c = omega (arith, turn-due _ _ _ _ (sym (c .before .before .before .before .before .before .before .before .before .before .before .before .before .before .before .before .before .before .before .before .before .before .before .before .before .before .before .before .halted .ensures) ∙ c .before .before .before .before .before .before .before .before .before .before .before .before .before .before .before .before .before .before .before .before .before .before .before .before .before .before .enum-told .given .1) .some)
+loop-less c = omega (arith, turn-due _ _ _ _ (sym (c .before .before .before .before .before .before .before .before .before .before .before .before .before .before .before .before .before .before .before .before .before .before .before .before .before .before .before .halted .ensures) ∙ c .before .before .before .before .before .before .before .before .before .before .before .before .before .before .before .before .before .before .before .before .before .before .before .before .before .enum-told .given .1) .some)
 
 -- src/course.rt:39:5
 loop-again : tie.Need-loop-again Inv-loop μ-loop
-loop-again c = going-on _ _ _ _ _ _ _ _ (c .before .before .before .before .before .before .before .before .before .before .before .before .before .before .before .before .before .before .before .before .before .before .before .before .before .before .before .before .before .loop .inv) (c .before .before .before .before .before .before .before .before .before .before .before .before .before .before .before .before .before .before .before .before .before .before .before .before .before .before .before .before .halted .result) (c .before .before .before .before .before .before .before .before .before .before .before .before .before .before .before .before .before .before .before .before .before .before .before .before .before .before .before .before .halted .ensures) (c .before .before .before .before .before .before .before .before .before .before .before .before .before .before .before .before .before .before .before .before .before .before .before .before .before .before .enum-told .given .1) _ (controlled _ _ _ _ _ _ _ (c .before .before .before .before .before .changed .ensures) (c .before .before .before .before .before .before .before .before .before .before .before .before .before .before .before .before .before .before .before .turn .ensures .0)) (c .before .before .before .refused-word .result) (c .before .before .before .refused-word .ensures) (c .before .enum-told2 .given .1) _ (c .quiet-after .ensures)
+loop-again c = going-on _ _ _ _ _ _ _ _ (c .before .before .before .before .before .before .before .before .before .before .before .before .before .before .before .before .before .before .before .before .before .before .before .before .before .before .before .before .loop .inv) (c .before .before .before .before .before .before .before .before .before .before .before .before .before .before .before .before .before .before .before .before .before .before .before .before .before .before .before .halted .result) (c .before .before .before .before .before .before .before .before .before .before .before .before .before .before .before .before .before .before .before .before .before .before .before .before .before .before .before .halted .ensures) (c .before .before .before .before .before .before .before .before .before .before .before .before .before .before .before .before .before .before .before .before .before .before .before .before .before .enum-told .given .1) _ (c .before .before .before .before .before .before .before .before .before .before .before .before .before .before .before .before .before .before .turn .ensures) (c .before .before .before .refused-word .result) (c .before .before .before .refused-word .ensures) (c .before .enum-told2 .given .1) _ (c .quiet-after .ensures)
 
 pub take-turns-spec : {M : Type 1} → statement M
 take-turns-spec =
@@ -156,8 +148,6 @@ take-turns-spec =
     returns
     enum-told
     turn-requires
-    cast-thread
-    changed-requires
     add-turns
     refused-word-requires
     enum-known-e

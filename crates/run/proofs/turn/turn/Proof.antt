@@ -36,11 +36,11 @@ offer-requires c κs = ready-offer _ _ _ (c .before .before .before .before .bef
 
 -- src/turn.rt:57:25
 moved-requires : tie.Need-moved-requires
-moved-requires c κs = let r = c .before .before .before .before .before .before .before .before .before .before .before .before .before .before .before .before .before .before .before .before .before .before .before .before .before .before .before .before .before .before .before .before .before .before .pre in (omega arith, omega arith, omega arith)
+moved-requires c κs = let r = c .before .before .before .before .before .before .before .before .before .before .before .before .before .before .before .before .before .before .before .before .before .before .before .before .before .before .before .before .before .before .before .before .before .before .before .pre in (omega arith, omega arith, omega arith)
 
 -- src/turn.rt:23:1
 returns : tie.Need-returns
-returns c = (turn-idle _ _ _ _ (c .before .before .before .next-word .result) (c .before .before .before .next-word .ensures) (c .before .enum-told .given .1) (c .onward .ensures), tt)
+returns c = turn-idle _ _ _ _ (c .before .before .before .next-word .result) (c .before .before .before .next-word .ensures) (c .before .enum-told .given .1) (c .onward .ensures)
 
 -- src/turn.rt:23:1
 same-length : tie.Need-same-length
@@ -68,7 +68,7 @@ same-length-6 c = search needs
 
 -- src/turn.rt:23:1
 returns-2 : tie.Need-returns-2
-returns-2 c = (turn-offers _ _ _ _ (c .before .before .before .before .before .before .before .before .before .before .before .before .before .before .before .before .before .before .before .before .before .before .before .before .next-word .result) (c .before .before .before .before .before .before .before .before .before .before .before .before .before .before .before .before .before .before .before .before .before .before .before .before .next-word .ensures) _ _ (c .before .before .before .before .before .before .before .before .before .before .before .before .before .before .before .before .before .before .before .before .before .before .w .given .1) (c .before .before .before .before .before .before .before .before .before .before .before .before .before .offer .ensures .0) (c .moved .ensures), c .before .before .before .before .before .before .before .before .before .before .before .before .before .offer .ensures .1)
+returns-2 c = turn-offers _ _ _ _ (c .before .before .before .before .before .before .before .before .before .before .before .before .before .before .before .before .before .before .before .before .before .before .before .before .before .next-word .result) (c .before .before .before .before .before .before .before .before .before .before .before .before .before .before .before .before .before .before .before .before .before .before .before .before .before .next-word .ensures) _ _ (c .before .before .before .before .before .before .before .before .before .before .before .before .before .before .before .before .before .before .before .before .before .before .before .w .given .1) (c .before .before .before .before .before .before .before .before .before .before .before .before .before .before .offer .ensures) (c .moved .ensures)
 
 pub turn-spec : {M : Type 1} → statement M
 turn-spec =

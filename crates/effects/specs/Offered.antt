@@ -1,0 +1,34 @@
+-- What an offered word comes to, and what it leaves in the stores of its unit.
+use Prim.Native.Nat.{ℕ}
+use mathlib.Core.Path.{_≡_}
+use mathlib.Core.Bool.{Bool}
+use mathlib.Core.List.{List}
+use Rattle.machine.specs.declared.refusal.Outcome.{Outcome}
+use Rattle.word_rules.specs.declared.instruction.Decoded.{Decoded}
+use Rattle.offers.specs.Offer.{waitOutcome, waitPart, ownerOutcome, ownerPart}
+use Rattle.effects.specs.Settings.{bankOf}
+use Rattle.effects.specs.Gprs.{gprsAfter}
+use Rattle.effects.specs.Config.{configAfter}
+use Rattle.effects.specs.Marks.{marksAfter}
+use Rattle.effects.specs.Sources.{srcAAfter, srcBAfter}
+use Rattle.effects.specs.After.{settingsAfter}
+
+-- a word of the scalar unit, offered by thread t: the GPRs after it, whatever Config holds
+pub record GprsOffered (stalls : Bool) (t : ℕ) (d : Decoded) (before : List ℕ) (o : Outcome) (after : List ℕ) : Type 0 where
+  pub outcome : o ≡ waitOutcome stalls d
+  pub gprs : (bank : ℕ) (config : List ℕ) → after ≡ waitPart stalls d (λ i. gprsAfter i t bank config before) before
+
+-- a word of the config unit, offered by thread t: the settings, the GPRs and the Config words after it
+pub record ConfigOffered (stalls : Bool) (t : ℕ) (d : Decoded) (s g k : List ℕ) (o : Outcome) (s' g' k' : List ℕ) : Type 0 where
+  pub outcome : o ≡ waitOutcome stalls d
+  pub settings : s' ≡ waitPart stalls d (λ i. settingsAfter i t s) s
+  pub gprs : g' ≡ waitPart stalls d (λ i. gprsAfter i t (bankOf s t) k g) g
+  pub config : k' ≡ waitPart stalls d (λ i. configAfter i t (bankOf s t) g k) k
+
+-- a word of the matrix unit, by whether Matrix owns SrcB's bank at the matrix pointer, with the banks at the matrix pointers and the
+-- Config words of the thread's bank: the marks, SrcA and SrcB after it
+pub record MatrixOffered (stalls owned : Bool) (bank bankA bankB : ℕ) (d : Decoded) (config : List ℕ) (m : List Bool) (a b : List ℕ) (o : Outcome) (m' : List Bool) (a' b' : List ℕ) : Type 0 where
+  pub outcome : o ≡ ownerOutcome stalls owned d
+  pub marks : m' ≡ ownerPart stalls owned d (λ i. marksAfter i bank config m) m
+  pub srcA : a' ≡ ownerPart stalls owned d (λ i. srcAAfter i bankA bankB b a) a
+  pub srcB : b' ≡ ownerPart stalls owned d (λ i. srcBAfter i bankB b) b

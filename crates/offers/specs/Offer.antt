@@ -1,0 +1,76 @@
+-- What an offered word comes to, and what it leaves of a part of the machine.
+use mathlib.Core.Bool.{Bool, true, false, cond}
+use Rattle.machine.specs.declared.refusal.StallCause.{StallCause}
+use Rattle.machine.specs.declared.refusal.StallCause.the-variants.{WaitHolds, BankNotMatrix}
+use Rattle.machine.specs.declared.refusal.Outcome.{Outcome}
+use Rattle.machine.specs.declared.refusal.Outcome.the-variants.{Idle, Passed, Stalled, Refused}
+use Rattle.word_rules.specs.declared.instruction.MatrixWord.{MatrixWord}
+use Rattle.word_rules.specs.declared.instruction.MatrixWord.the-variants.{TrnspSrcB, MovB2A, ZeroAcc, ClearDValid, SetDValid}
+use Rattle.word_rules.specs.declared.instruction.Instruction.{Instruction}
+use Rattle.word_rules.specs.declared.instruction.Instruction.the-variants.{Nop, Scalar, Sync, Config, Matrix}
+use Rattle.word_rules.specs.declared.instruction.Decoded.{Decoded}
+use Rattle.word_rules.specs.declared.instruction.Decoded.the-variants.{Decodes, Rejects}
+
+abbrev pub hasPassed : Outcome → Bool
+hasPassed Idle = false
+hasPassed Passed = true
+hasPassed (Stalled cause) = false
+hasPassed (Refused r) = false
+
+-- may a word pass now, or why not
+pub data Gate : Type 0 where
+  Open : Gate
+  Closed : StallCause → Gate
+
+abbrev pub gateOutcome : Gate → Outcome
+gateOutcome Open = Passed
+gateOutcome (Closed cause) = Stalled cause
+
+-- a stall changes nothing
+abbrev pub ifOpen : {A : Type 0} → Gate → A → A → A
+ifOpen Open new old = new
+ifOpen (Closed cause) new old = old
+
+-- what comes of a word: 2, 3, then what its gate says
+abbrev pub outcomeOf : (Instruction → Gate) → Decoded → Outcome
+outcomeOf gate (Decodes i) = gateOutcome (gate i)
+outcomeOf gate (Rejects r) = Refused r
+
+-- a part of the machine after a word: changed where the word passes, else as it was
+abbrev pub partOf : {A : Type 0} → (Instruction → Gate) → Decoded → (Instruction → A) → A → A
+partOf gate (Decodes i) effect old = ifOpen (gate i) (effect i) old
+partOf gate (Rejects r) effect old = old
+
+-- a gate at which the thread's wait is asked first (101)
+abbrev pub waitFirst : Bool → Gate → Gate
+waitFirst stalls gate = cond stalls (Closed WaitHolds) gate
+
+-- the same of a word that nothing but its thread's wait can stall
+abbrev pub waitOutcome : Bool → Decoded → Outcome
+waitOutcome stalls d = outcomeOf (λ i. waitFirst stalls Open) d
+
+abbrev pub waitPart : {A : Type 0} → Bool → Decoded → (Instruction → A) → A → A
+waitPart stalls d effect old = partOf (λ i. waitFirst stalls Open) d effect old
+
+-- TRNSPSRCB and MOVB2A wait for SrcB's owner Matrix (103), not for SrcA; SETDVALID and CLEARDVALID don't wait
+abbrev pub matrixGate : Bool → MatrixWord → Gate
+matrixGate owned TrnspSrcB = cond owned Open (Closed BankNotMatrix)
+matrixGate owned (MovB2A rowA four rowB) = cond owned Open (Closed BankNotMatrix)
+matrixGate owned (ZeroAcc mode wide place) = Open
+matrixGate owned (ClearDValid a b keep reset) = Open
+matrixGate owned (SetDValid a b) = Open
+
+-- the same of any instruction, where no mutex is asked
+abbrev pub ownerGate : Bool → Instruction → Gate
+ownerGate owned Nop = Open
+ownerGate owned (Scalar s) = Open
+ownerGate owned (Sync s) = Open
+ownerGate owned (Config k) = Open
+ownerGate owned (Matrix x) = matrixGate owned x
+
+-- what comes of a word that its thread's wait or SrcB's owner can stall, and what it leaves of a part
+abbrev pub ownerOutcome : Bool → Bool → Decoded → Outcome
+ownerOutcome stalls owned d = outcomeOf (λ i. waitFirst stalls (ownerGate owned i)) d
+
+abbrev pub ownerPart : {A : Type 0} → Bool → Bool → Decoded → (Instruction → A) → A → A
+ownerPart stalls owned d effect old = partOf (λ i. waitFirst stalls (ownerGate owned i)) d effect old

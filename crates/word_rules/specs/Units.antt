@@ -1,0 +1,92 @@
+-- The table of the words, cut by unit: the unit of an opcode, and the rows of each unit.
+use Prim.Native.Nat.{ℕ}
+use mathlib.Core.Bool.{cond}
+use lib.Dec.{eqb}
+use Rattle.machine.specs.declared.refusal.Refusal.the-variants.{BadWord}
+use Rattle.word_rules.specs.declared.instruction.MatrixWord.the-variants.{TrnspSrcB}
+use Rattle.word_rules.specs.declared.instruction.ScalarWord.the-variants.{DmaNop}
+use Rattle.word_rules.specs.declared.instruction.Instruction.the-variants.{Nop, Scalar, Matrix}
+use Rattle.word_rules.specs.declared.instruction.Decoded.{Decoded}
+use Rattle.word_rules.specs.declared.instruction.Decoded.the-variants.{Decodes, Rejects}
+use Rattle.word_rules.specs.declared.unit.WordUnit.{WordUnit}
+use Rattle.word_rules.specs.declared.unit.WordUnit.the-variants.{NoUnit, ScalarUnit, SyncUnit, ConfigUnit, MatrixUnit, UnknownUnit}
+use Rattle.word_rules.specs.ScalarWords.{setDmaRegOf, addDmaRegOf, mulDmaRegOf}
+use Rattle.word_rules.specs.SyncWords.{atGetMOf, atRelMOf, stallWaitOf, semInitOf, semPostOf, semGetOf, semWaitOf}
+use Rattle.word_rules.specs.ConfigWords.{wrCfgOf, rdCfgOf, setC16Of, rmwCibOf}
+use Rattle.word_rules.specs.MatrixWords.{movB2AOf, zeroAccOf, clearDValidOf, setDValidOf}
+
+-- by the last column of the table
+unfoldable pub unitOf : ℕ → WordUnit
+unitOf op =
+    cond (eqb op 0x02) NoUnit
+    (cond (eqb op 0x16) MatrixUnit
+    (cond (eqb op 0x0B) MatrixUnit
+    (cond (eqb op 0x10) MatrixUnit
+    (cond (eqb op 0x36) MatrixUnit
+    (cond (eqb op 0x57) MatrixUnit
+    (cond (eqb op 0x45) ScalarUnit
+    (cond (eqb op 0x58) ScalarUnit
+    (cond (eqb op 0x5A) ScalarUnit
+    (cond (eqb op 0x60) ScalarUnit
+    (cond (eqb op 0xA0) SyncUnit
+    (cond (eqb op 0xA1) SyncUnit
+    (cond (eqb op 0xA2) SyncUnit
+    (cond (eqb op 0xA3) SyncUnit
+    (cond (eqb op 0xA4) SyncUnit
+    (cond (eqb op 0xA5) SyncUnit
+    (cond (eqb op 0xA6) SyncUnit
+    (cond (eqb op 0xB0) ConfigUnit
+    (cond (eqb op 0xB1) ConfigUnit
+    (cond (eqb op 0xB2) ConfigUnit
+    (cond (eqb op 0xB3) ConfigUnit
+    (cond (eqb op 0xB4) ConfigUnit
+    (cond (eqb op 0xB5) ConfigUnit
+    (cond (eqb op 0xB6) ConfigUnit
+    UnknownUnit)))))))))))))))))))))))
+
+abbrev pub matrixRows : ℕ → ℕ → Decoded
+matrixRows op w =
+    cond (eqb op 0x16) (Decodes (Matrix TrnspSrcB))
+    (cond (eqb op 0x0B) (movB2AOf w)
+    (cond (eqb op 0x10) (zeroAccOf w)
+    (cond (eqb op 0x36) (clearDValidOf w)
+    (cond (eqb op 0x57) (setDValidOf w)
+    (Rejects BadWord)))))
+
+abbrev pub scalarRows : ℕ → ℕ → Decoded
+scalarRows op w =
+    cond (eqb op 0x45) (setDmaRegOf w)
+    (cond (eqb op 0x58) (addDmaRegOf w)
+    (cond (eqb op 0x5A) (mulDmaRegOf w)
+    (cond (eqb op 0x60) (Decodes (Scalar DmaNop))
+    (Rejects BadWord))))
+
+abbrev pub syncRows : ℕ → ℕ → Decoded
+syncRows op w =
+    cond (eqb op 0xA0) (atGetMOf w)
+    (cond (eqb op 0xA1) (atRelMOf w)
+    (cond (eqb op 0xA2) (stallWaitOf w)
+    (cond (eqb op 0xA3) (semInitOf w)
+    (cond (eqb op 0xA4) (semPostOf w)
+    (cond (eqb op 0xA5) (semGetOf w)
+    (cond (eqb op 0xA6) (semWaitOf w)
+    (Rejects BadWord)))))))
+
+abbrev pub configRows : ℕ → ℕ → Decoded
+configRows op w =
+    cond (eqb op 0xB0) (wrCfgOf w)
+    (cond (eqb op 0xB1) (rdCfgOf w)
+    (cond (eqb op 0xB2) (setC16Of w)
+    (cond (eqb op 0xB3) (rmwCibOf 0 w)
+    (cond (eqb op 0xB4) (rmwCibOf 1 w)
+    (cond (eqb op 0xB5) (rmwCibOf 2 w)
+    (cond (eqb op 0xB6) (rmwCibOf 3 w)
+    (Rejects BadWord)))))))
+
+abbrev pub rowsOf : WordUnit → ℕ → ℕ → Decoded
+rowsOf NoUnit op w = Decodes Nop
+rowsOf ScalarUnit op w = scalarRows op w
+rowsOf SyncUnit op w = syncRows op w
+rowsOf ConfigUnit op w = configRows op w
+rowsOf MatrixUnit op w = matrixRows op w
+rowsOf UnknownUnit op w = Rejects BadWord
