@@ -12,6 +12,7 @@ use records::script::Script;
 use records::script::ScriptRead;
 use turns::cursor::Cursor;
 use turns::ending::Ending;
+use whole_runs::run_whole;
 
 // The most words of a thread.
 pub const THREAD_WORDS: usize = 1024;
@@ -35,36 +36,13 @@ fn run_fresh(s0: &[u32], s1: &[u32], s2: &[u32], budget: u32) -> Outline
     ensures turns { λ r. ⌜ r .turns ≡ freshRun (streams (now (s0 .entry)) (now (s1 .entry)) (now (s2 .entry))) budget .turns ⌝ }
     ensures cursor { λ r. ⌜ r .cursor ≡ freshRun (streams (now (s0 .entry)) (now (s1 .entry)) (now (s2 .entry))) budget .cursor ⌝ }
 {
-    let m = machine::fresh::fresh();
-    let control = m.control;
-    let mut settings = m.settings;
-    let mut gprs = m.gprs;
-    let mut config = m.config;
-    let dest = m.dest;
-    let mut marks = m.marks;
-    let mut src_a = m.src_a;
-    let mut src_b = m.src_b;
     let start = Cursor {
         at0: 0,
         at1: 0,
         at2: 0,
         next: 0,
     };
-    let ran = run::run(
-        control,
-        &mut settings,
-        &mut gprs,
-        &mut config,
-        &dest,
-        &mut marks,
-        &mut src_a,
-        &mut src_b,
-        s0,
-        s1,
-        s2,
-        start,
-        budget,
-    );
+    let ran = run_whole(machine::fresh::fresh(), s0, s1, s2, start, budget);
     let answer = ran.answer;
     let cursor = ran.cursor;
     Outline {

@@ -1,5 +1,4 @@
 // Saves of one machine, and loads of its image.
-use crate::whole::digest;
 use crate::whole::machine_of;
 use image::LoadAnswer;
 use image::Loaded;
@@ -9,6 +8,7 @@ use machine::fresh::WholeMachine;
 use machine::fresh::fresh;
 use machine::refusal::refusal_number;
 use seeded::sums;
+use whole_seeded::digest_whole;
 
 // 0, or the refusal's number.
 fn save_number(s: Saved) -> u32 {
@@ -197,6 +197,6 @@ pub fn load_machine(seed: u32, room: &mut [u8], times: u32) -> Told {
     let machine = after.machine;
     Told {
         answer: load_number(answer),
-        sum: digest(machine),
+        sum: digest_whole(machine),
     }
 }

@@ -1,17 +1,11 @@
-// Machines by value: each function lends the parts to one call, so that no other function holds them all.
+// The machine that a job's seed names.
 ghost use mathlib.Core.Path.{_≡_};
 ghost use Rattle.machine.specs.Fresh.{freshControl, machineOf};
-ghost use Rattle.seeded.specs.Digest.{digestOf};
-ghost use Rattle.repeated.specs.Seeds.{drawnMachine, seedMachine};
+ghost use Rattle.repeated.specs.Seeds.{seedMachine};
 use machine::control::Control;
 use machine::fresh::WholeMachine;
 use machine::fresh::fresh;
-use machine::sizes::CONFIG_WORDS;
-use machine::sizes::DEST_CELLS;
-use machine::sizes::DEST_ROWS;
-use machine::sizes::GPRS;
-use machine::sizes::SETTINGS;
-use machine::sizes::SOURCE_CELLS;
+use whole_seeded::seeded_machine;
 
 // A fresh control part.
 pub fn fresh_control() -> Control
@@ -21,38 +15,6 @@ pub fn fresh_control() -> Control
     m.control
 }
 
-fn drawn_machine(seed: u32) -> WholeMachine
-    ensures { λ r. ⌜ machineOf r ≡ drawnMachine seed ⌝ }
-{
-    let mut settings = [0; SETTINGS];
-    let mut gprs = [0; GPRS];
-    let mut config = [0; CONFIG_WORDS];
-    let mut dest = [0; DEST_CELLS];
-    let mut marks = [false; DEST_ROWS];
-    let mut src_a = [0; SOURCE_CELLS];
-    let mut src_b = [0; SOURCE_CELLS];
-    let control = seeded::whole::fill_machine(
-        seed,
-        &mut settings,
-        &mut gprs,
-        &mut config,
-        &mut dest,
-        &mut marks,
-        &mut src_a,
-        &mut src_b,
-    );
-    WholeMachine {
-        control,
-        settings,
-        gprs,
-        config,
-        dest,
-        marks,
-        src_a,
-        src_b,
-    }
-}
-
 // The machine of a seed; of 0, a fresh one.
 pub fn machine_of(seed: u32) -> WholeMachine
     ensures { λ r. ⌜ machineOf r ≡ seedMachine seed ⌝ }
@@ -60,27 +22,5 @@ pub fn machine_of(seed: u32) -> WholeMachine
     if seed == 0 {
         return fresh();
     }
-    drawn_machine(seed)
-}
-
-pub fn digest(m: WholeMachine) -> u32
-    ensures { λ r. ⌜ r ≡ digestOf (machineOf m) ⌝ }
-{
-    let settings = m.settings;
-    let gprs = m.gprs;
-    let config = m.config;
-    let dest = m.dest;
-    let marks = m.marks;
-    let src_a = m.src_a;
-    let src_b = m.src_b;
-    seeded::digest::digest(
-        m.control,
-        &settings,
-        &gprs,
-        &config,
-        &dest,
-        &marks,
-        &src_a,
-        &src_b,
-    )
+    seeded_machine(seed)
 }

@@ -2,13 +2,13 @@
 // a proof writes out the type of a value that is not there yet, at every step.
 use machine::fresh::WholeMachine;
 use machine::refusal::refusal_number;
-use repeated::whole::digest;
 use repeated::whole::fresh_control;
 use repeated::whole::machine_of;
 use run::Ran;
 use std::num::wrapping_add_u32;
 use turns::cursor::Cursor;
 use turns::ending::Ending;
+use whole_seeded::digest_whole;
 
 // How the last run ended, the turns of all, and the machine's digest after them.
 pub struct Told {
@@ -161,7 +161,7 @@ fn told_of(after: After) -> Told {
     Told {
         ending: ending_number(answer),
         turns: after.turns,
-        sum: digest(machine),
+        sum: digest_whole(machine),
     }
 }
 

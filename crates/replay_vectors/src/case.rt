@@ -4,6 +4,8 @@ ghost use lib.ListN.{length};
 use format::number::read;
 use libc::STDIN_FILENO;
 use telling::IMAGE_BYTES;
+use whole_images::save_whole;
+use whole_seeded::seeded_machine;
 
 // An input is the image of the seed's machine, then `before` bytes that follow the case, `fill` bytes 2 (four of them are a
 // NOP), and `after` bytes more that follow it; of it all, the byte at `place` is set, and the first `keep` bytes are kept.
@@ -76,7 +78,7 @@ fn make_input(c: Case, room: &mut [u8]) -> usize
     requires { ⌜ 48473 ≤ length (now room) ⌝ }
     ensures { λ r. ⌜ r ≤ length (now (room .exit)) ⌝ }
 {
-    crate::saved::save_seeded(c.seed, room);
+    save_whole(seeded_machine(c.seed), room);
     let a = read_to(room, IMAGE_BYTES, c.before);
     let b = fill_to(room, a, c.fill);
     let e = read_to(room, b, c.after);
@@ -85,7 +87,7 @@ fn make_input(c: Case, room: &mut [u8]) -> usize
 }
 
 // Answers the next case, in the room lent for it; whether there was one.
-pub fn answer(room: &mut [u8], out: &mut [u8]) -> bool {
+pub(crate) fn answer(room: &mut [u8], out: &mut [u8]) -> bool {
     let mut head = [0u8; 28];
     let got = io::read_full(STDIN_FILENO, &mut head);
     if got < 28 {

@@ -15,7 +15,7 @@ fn sum_of(s: &[u8]) -> u32 {
 }
 
 // The text of the first m bytes, and a line with the sum of them all.
-pub fn write_output(out: &[u8], m: usize) {
+pub(crate) fn write_output(out: &[u8], m: usize) {
     if m <= out.len() {
         let n = text_length(m);
         io::write_all(STDOUT_FILENO, &out[..n]);

@@ -3,7 +3,6 @@
 // Standard input is cases: seven numbers of 4 bytes (`case.rt`), and the bytes that they say.
 mod case;
 mod lines;
-mod saved;
 
 use replaying::INPUT_BYTES;
 use replaying::OUTPUT_BYTES;

@@ -9,8 +9,8 @@ use Rattle.turns.specs.declared.cursor.Cursor.{Cursor}
 use Rattle.turns.specs.Streams.{Streams}
 use Rattle.run_rules.specs.Run.{Summary, runOf, summaryOf}
 use Rattle.run_rules.proofs.Kept.{run-keeps}
-use Rattle.replaying.specs.declared.by_value.WholeRan.{WholeRan}
-use Rattle.replaying.specs.Replay.{ranSummary}
+use Rattle.whole_runs.specs.declared.WholeRan.{WholeRan}
+use Rattle.whole_runs.specs.Ran.{ranSummary}
 
 pub ran-kept : (s : Streams) (m : Machine) (c : Cursor) (budget : ℕ) (r : WholeRan) →
     ranSummary r ≡ summaryOf (runOf s m c budget) → wellFormed m ≡ true → wellFormed (machineOf (r .machine)) ≡ true

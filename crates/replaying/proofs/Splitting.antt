@@ -1,16 +1,10 @@
--- An input cut into its image and what follows, and the sizes of a machine by value.
+-- An input cut into its image and what follows.
 use Prim.Native.Nat.{ℕ, _-_, _≤_, _<_}
 use mathlib.Core.Path.{_≡_, sym, _∙_}
-use mathlib.Core.Bool.{true}
 use mathlib.Core.List.{List}
 use native.Mathlib.Omega.{arith}
 use lib.ListN.{length, take, drop, length-drop, drop-of-length-le}
 use lib.Seq.{take-all, take-length, drop-length, length-take-le}
-use Rattle.bits.proofs.Choices.{and-left}
-use Rattle.machine.specs.declared.fresh.WholeMachine.{WholeMachine}
-use Rattle.machine.specs.Formed.{sized, formed, wellFormed}
-use Rattle.machine.specs.Fresh.{machineOf}
-use Rattle.machine.proofs.SizedFacts.{SizedFacts, sized-facts}
 use Rattle.layout.specs.Image.{imageSize}
 use Rattle.replaying.specs.Replay.{partsOf, replayOf, Split}
 
@@ -33,6 +27,3 @@ whole-parts bs n s =
     let d : length (drop n bs) ≡ length bs - n = length-drop n bs in
     let few : length (drop n bs) ≤ length bs - n = omega arith in
     rw (take-all (length bs - n) (drop n bs) few, s .image, s .rest)
-
-pub sized-whole : (f : WholeMachine) → wellFormed (machineOf f) ≡ true → SizedFacts (machineOf f .settings) (machineOf f .kept)
-sized-whole f h = sized-facts (machineOf f) (and-left (sized (machineOf f)) (formed (machineOf f)) h)

@@ -7,10 +7,9 @@ use lib.ListN.{length, take, drop}
 use Rattle.machine.specs.declared.refusal.Refusal.{Refusal}
 use Rattle.machine.specs.declared.refusal.Refusal.the-variants.{BadThread, BadWord, BadField, BadLength, BadCursor, BadBudget, BadRounds, ShortOutput, BadImage, Malformed, BadPlace, WrongOwner}
 use Rattle.machine.specs.Machine.{Machine}
-use Rattle.machine.specs.Fresh.{machineOf}
 use Rattle.format.specs.Format.{accepts}
 use Rattle.layout.specs.Image.{image, imageSize}
-use Rattle.run_rules.specs.Run.{Summary, runOf, summary, summaryOf}
+use Rattle.run_rules.specs.Run.{Summary, runOf, summaryOf}
 use Rattle.records.specs.declared.replay_script.ReplayScript.{ReplayScript}
 use Rattle.records.specs.declared.replay_script.ReplayRead.{ReplayRead}
 use Rattle.records.specs.declared.replay_script.ReplayRead.the-variants.{Whole, Faulty}
@@ -19,7 +18,6 @@ use Rattle.records.specs.ReplayScript.{replayScriptOf}
 use Rattle.report.specs.Words.{badRecordWord, badImageWord}
 use Rattle.report.specs.Lines.{numberLine}
 use Rattle.telling.specs.Told.{toldOf}
-use Rattle.replaying.specs.declared.by_value.WholeRan.{WholeRan}
 
 -- the machine of an image's bytes
 unfoldable pub imageMachine : List ℕ → Machine
@@ -32,10 +30,6 @@ imageGood bs = image .good bs
 -- nothing of an image is missing, cut, out of range or left over
 unfoldable pub imageFine : List ℕ → Bool
 imageFine bs = accepts image bs
-
--- the summary that a run by value is
-abbrev pub ranSummary : WholeRan → Summary
-ranSummary r = summary (r .answer) (r .turns) (machineOf (r .machine)) (r .cursor)
 
 -- the run that the records ask for
 unfoldable pub replayRun : List ℕ → Machine → ReplayScript → Summary

@@ -1,6 +1,5 @@
 // The program `replay`, from its input's bytes to its output's: an image, streams, a budget and a cursor in; lines and the
 // image after the run out.
-mod by_value;
 mod whole;
 
 ghost use mathlib.Core.Path.{_≡_};

@@ -12,9 +12,6 @@ ghost use Rattle.records.specs.declared.replay_script.ReplayRead.the-variants.{
 ghost use Rattle.records.specs.ReplayScript.{replayScriptOf};
 ghost use Rattle.telling.specs.Told.{toldOf};
 ghost use Rattle.replaying.specs.Replay.{offsetOf, replayRun, recordsOf, partsOf};
-use crate::by_value::load_whole;
-use crate::by_value::put_told_whole;
-use crate::by_value::run_whole;
 use image::LoadAnswer;
 use machine::fresh::WholeMachine;
 use machine::refusal::Refusal;
@@ -22,6 +19,9 @@ use machine::sizes::STREAM_WORDS;
 use records::replay_script::ReplayRead;
 use records::replay_script::ReplayScript;
 use telling::IMAGE_BYTES;
+use telling::put_told;
+use whole_images::load_whole;
+use whole_runs::run_whole;
 
 // Runs a machine and tells of it. Internal: the machine is well formed, and there is room.
 fn run_told(
@@ -37,7 +37,10 @@ fn run_told(
     ensures { λ r. ⌜ Wrote (now (out .entry)) 0 (toldOf (now (came .entry)) (summaryOf (runOf (streams (now (s0 .entry)) (now (s1 .entry)) (now (s2 .entry))) (machineOf m) (script .cursor) (script .budget))) (script .counts)) (now (out .exit)) r ⌝ }
 {
     let ran = run_whole(m, s0, s1, s2, script.cursor, script.budget);
-    put_told_whole(out, came, ran, script.counts)
+    let answer = ran.answer;
+    let cursor = ran.cursor;
+    let after = ran.machine;
+    put_told(out, came, answer, ran.turns, cursor, script.counts, after)
 }
 
 // Reads the streams, runs the machine and tells of it. Internal: the script is the records', each stream is as long as its
@@ -165,7 +168,7 @@ pub fn replay_parts(came: &[u8], tail: &[u8], out: &mut [u8]) -> usize
     requires { ⌜ (49000 ≤ length (now out)) × (length (now came) ≤ 48473) ⌝ }
     ensures { λ r. ⌜ Wrote (now (out .entry)) 0 (partsOf (now (came .entry)) (now (tail .entry))) (now (out .exit)) r ⌝ }
 {
-    let loaded = load_whole(came);
+    let loaded = load_whole(came, machine::fresh::fresh());
     let answer = loaded.answer;
     match answer {
         LoadAnswer::NotLoaded(r) => report::put_number_line(

@@ -5,47 +5,27 @@ ghost use mathlib.Core.List.{_++_};
 ghost use Prim.Native.Nat.{_+_, _≤_};
 ghost use lib.ListN.{length};
 ghost use Rattle.bits.specs.Overwrite.{Wrote};
-ghost use Rattle.machine.specs.Machine.{machine, stores};
 ghost use Rattle.machine.specs.Formed.{wellFormed};
+ghost use Rattle.machine.specs.Fresh.{machineOf};
 ghost use Rattle.run_rules.specs.Run.{summary};
 ghost use Rattle.report.specs.Lines.{endLine};
 ghost use Rattle.telling.specs.Told.{imageBytes, sixLines, callRefused, toldOf};
-use machine::control::Control;
+use machine::fresh::WholeMachine;
 use records::counts::Counts;
 use turns::cursor::Cursor;
 use turns::ending::Ending;
+use whole_images::save_whole;
 
 // The bytes of an image.
 pub const IMAGE_BYTES: usize = 48473;
 
 // The image of a well-formed machine. Internal: there is room.
-fn put_image(
-    out: &mut [u8],
-    at: usize,
-    control: Control,
-    settings: &[u16],
-    gprs: &[u32],
-    config: &[u32],
-    dest: &[u16],
-    marks: &[bool],
-    src_a: &[u32],
-    src_b: &[u32],
-) -> usize
-    requires { ⌜ (wellFormed (machine control (now settings) (stores (now gprs) (now config) (now dest) (now marks) (now «src_a») (now «src_b»))) ≡ true) × (at + 48473 ≤ length (now out)) ⌝ }
-    ensures { λ r. ⌜ Wrote (now (out .entry)) at (imageBytes (machine control (now (settings .entry)) (stores (now (gprs .entry)) (now (config .entry)) (now (dest .entry)) (now (marks .entry)) (now («src_a» .entry)) (now («src_b» .entry))))) (now (out .exit)) r ⌝ }
+fn put_image(out: &mut [u8], at: usize, m: WholeMachine) -> usize
+    requires { ⌜ (wellFormed (machineOf m) ≡ true) × (at + 48473 ≤ length (now out)) ⌝ }
+    ensures { λ r. ⌜ Wrote (now (out .entry)) at (imageBytes (machineOf m)) (now (out .exit)) r ⌝ }
 {
     let rest = &mut out[at..];
-    image::save(
-        control,
-        settings,
-        gprs,
-        config,
-        dest,
-        marks,
-        src_a,
-        src_b,
-        rest,
-    );
+    save_whole(m, rest);
     at + IMAGE_BYTES
 }
 
@@ -56,17 +36,10 @@ fn put_ran(
     turns: u32,
     cursor: Cursor,
     counts: Counts,
-    control: Control,
-    settings: &[u16],
-    gprs: &[u32],
-    config: &[u32],
-    dest: &[u16],
-    marks: &[bool],
-    src_a: &[u32],
-    src_b: &[u32],
+    m: WholeMachine,
 ) -> usize
-    requires { ⌜ (wellFormed (machine control (now settings) (stores (now gprs) (now config) (now dest) (now marks) (now «src_a») (now «src_b»))) ≡ true) × (49000 ≤ length (now out)) ⌝ }
-    ensures { λ r. ⌜ Wrote (now (out .entry)) 0 (sixLines (summary answer turns (machine control (now (settings .entry)) (stores (now (gprs .entry)) (now (config .entry)) (now (dest .entry)) (now (marks .entry)) (now («src_a» .entry)) (now («src_b» .entry)))) cursor) counts ++ imageBytes (machine control (now (settings .entry)) (stores (now (gprs .entry)) (now (config .entry)) (now (dest .entry)) (now (marks .entry)) (now («src_a» .entry)) (now («src_b» .entry))))) (now (out .exit)) r ⌝ }
+    requires { ⌜ (wellFormed (machineOf m) ≡ true) × (49000 ≤ length (now out)) ⌝ }
+    ensures { λ r. ⌜ Wrote (now (out .entry)) 0 (sixLines (summary answer turns (machineOf m) cursor) counts ++ imageBytes (machineOf m)) (now (out .exit)) r ⌝ }
 {
     let p = report::put_run_lines(
         out,
@@ -79,18 +52,7 @@ fn put_ran(
         counts.n2,
     );
     let q = report::put_number_line(out, p, b"next ", cursor.next as usize);
-    put_image(
-        out,
-        q,
-        control,
-        settings,
-        gprs,
-        config,
-        dest,
-        marks,
-        src_a,
-        src_b,
-    )
+    put_image(out, q, m)
 }
 
 // `rejected N`, and the image as it came. Internal: there is room.
@@ -123,34 +85,13 @@ pub fn put_told(
     turns: u32,
     cursor: Cursor,
     counts: Counts,
-    control: Control,
-    settings: &[u16],
-    gprs: &[u32],
-    config: &[u32],
-    dest: &[u16],
-    marks: &[bool],
-    src_a: &[u32],
-    src_b: &[u32],
+    m: WholeMachine,
 ) -> usize
-    requires { ⌜ (wellFormed (machine control (now settings) (stores (now gprs) (now config) (now dest) (now marks) (now «src_a») (now «src_b»))) ≡ true) × (49000 ≤ length (now out)) × (length (now came) ≤ 48473) ⌝ }
-    ensures { λ r. ⌜ Wrote (now (out .entry)) 0 (toldOf (now (came .entry)) (summary answer turns (machine control (now (settings .entry)) (stores (now (gprs .entry)) (now (config .entry)) (now (dest .entry)) (now (marks .entry)) (now («src_a» .entry)) (now («src_b» .entry)))) cursor) counts) (now (out .exit)) r ⌝ }
+    requires { ⌜ (wellFormed (machineOf m) ≡ true) × (49000 ≤ length (now out)) × (length (now came) ≤ 48473) ⌝ }
+    ensures { λ r. ⌜ Wrote (now (out .entry)) 0 (toldOf (now (came .entry)) (summary answer turns (machineOf m) cursor) counts) (now (out .exit)) r ⌝ }
 {
     if call_refused(answer) {
         return put_rejected(out, answer, came);
     }
-    put_ran(
-        out,
-        answer,
-        turns,
-        cursor,
-        counts,
-        control,
-        settings,
-        gprs,
-        config,
-        dest,
-        marks,
-        src_a,
-        src_b,
-    )
+    put_ran(out, answer, turns, cursor, counts, m)
 }

@@ -5,45 +5,27 @@ use lib.Seq.{length-take-le}
 use borrow.Author.Needs.{needs}
 use Rattle.emulation.proofs.run_script.Statement.{statement}
 use Rattle.emulation.proofs.run_script.Tie as tie
-use Rattle.emulation.proofs.run_script.Reads as reads
-use Rattle.emulation.proofs.run_script.Lts as lts
-use Rattle.emulation.proofs.run_words.Reads as run-words-reads
 
--- src/lib.rt:124:9
 array-borrow-prefix-s0 : tie.Need-array-borrow-prefix-s0
 array-borrow-prefix-s0 c = let f = sound-facts _ _ (c .before .before .before .pre .0) in omega arith
 
--- src/lib.rt:124:9
 slice-aggregate-run-words : tie.Need-slice-aggregate-run-words
 slice-aggregate-run-words c = let f = sound-facts _ _ (c .before .before .before .before .pre .0) in sym (length-take-le (c .before .before .before .before .args .script .counts .n0) _ (omega arith))
 
--- src/lib.rt:125:9
 array-borrow-prefix-s1 : tie.Need-array-borrow-prefix-s1
 array-borrow-prefix-s1 c = let f = sound-facts _ _ (c .before .before .before .before .pre .0) in omega arith
 
--- src/lib.rt:125:9
 slice-aggregate-run-words-2 : tie.Need-slice-aggregate-run-words-2
 slice-aggregate-run-words-2 c = let f = sound-facts _ _ (c .before .before .before .before .before .pre .0) in sym (length-take-le (c .before .before .before .before .before .args .script .counts .n1) _ (omega arith))
 
--- src/lib.rt:126:9
 array-borrow-prefix-s2 : tie.Need-array-borrow-prefix-s2
 array-borrow-prefix-s2 c = let f = sound-facts _ _ (c .before .before .before .before .before .pre .0) in omega arith
 
--- src/lib.rt:126:9
 slice-aggregate-run-words-3 : tie.Need-slice-aggregate-run-words-3
 slice-aggregate-run-words-3 c = let f = sound-facts _ _ (c .before .before .before .before .before .before .pre .0) in sym (length-take-le (c .before .before .before .before .before .before .args .script .counts .n2) _ (omega arith))
 
--- src/lib.rt:121:5
 run-words-requires : tie.Need-run-words-requires
 run-words-requires c κs = let f = sound-facts _ _ (c .before .before .before .before .before .before .before .pre .0) in (c .before .before .before .before .before .before .before .pre .0, length-take-le (c .before .before .before .before .before .before .before .args .script .counts .n0) _ (omega arith), length-take-le (c .before .before .before .before .before .before .before .args .script .counts .n1) _ (omega arith), length-take-le (c .before .before .before .before .before .before .before .args .script .counts .n2) _ (omega arith), omega arith)
-
--- src/lib.rt:109:1
-same-length : tie.Need-same-length
-same-length c = search needs
-
--- src/lib.rt:109:1
-returns : tie.Need-returns
-returns c = search needs
 
 pub run-script-spec : {M : Type 1} → statement M
 run-script-spec =
@@ -56,5 +38,5 @@ run-script-spec =
     array-borrow-prefix-s2
     slice-aggregate-run-words-3
     run-words-requires
-    same-length
-    returns)
+    (λ c. search needs)
+    (λ c. search needs))

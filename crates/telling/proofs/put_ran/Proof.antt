@@ -1,5 +1,5 @@
-use native.Mathlib.Omega.{arith}
 use Rattle.bits.proofs.Overwrite.{wrote-then}
+use native.Mathlib.Omega.{arith}
 use borrow.Author.Needs.{needs}
 use Rattle.telling.proofs.put_ran.Statement.{statement}
 use Rattle.telling.proofs.put_ran.Tie as tie

@@ -1,37 +1,36 @@
-use Rattle.replaying.proofs.Loading.{parts-bad, parts-taken, loaded-formed}
-use Rattle.report.specs.Lines.{numberLine}
-use Rattle.report.specs.Words.{badImageWord}
-use mathlib.Core.Path.{ap, _∙_, subst}
-use native.Mathlib.Omega.{arith}
-use Prim.Native.Nat.{ℕ}
-use mathlib.Core.List.{List}
-use Rattle.machine.specs.Fresh.{machineOf}
 use Rattle.bits.specs.Overwrite.{Wrote}
+use Rattle.machine.specs.Fresh.{machineOf}
+use mathlib.Core.List.{List}
+use Prim.Native.Nat.{ℕ}
+use native.Mathlib.Omega.{arith}
+use mathlib.Core.Path.{ap, _∙_, subst}
+use Rattle.report.specs.Words.{badImageWord}
+use Rattle.report.specs.Lines.{numberLine}
+use Rattle.image.specs.Calls.{loadOf}
+use Rattle.replaying.proofs.Loading.{parts-bad, parts-taken, loaded-formed}
 use borrow.Author.Needs.{needs}
 use Rattle.replaying.proofs.whole.replay_parts.Statement.{statement}
 use Rattle.replaying.proofs.whole.replay_parts.Tie as tie
 
-put-number-line-requires : tie.Need-put-number-line-requires
-put-number-line-requires c κs = omega (arith, c .before .before .before .before .before .before .before .before .before .before .pre .0)
-
 replay-records-requires : tie.Need-replay-records-requires
-replay-records-requires c κs = let a = c .before .before .before .before .before .before .before .before .args in (loaded-formed (a .came .now) (a .tail .now) (c .before .before .before .before .load-whole .result .answer) (machineOf (c .before .before .before .before .load-whole .result .machine)) (c .before .before .before .before .load-whole .ensures) (c .before .before .enum-told .given .1) (λ (i : ℕ). omega (arith, c .before .before .before .before .before .before .before .shared-slice-known .given i)), c .before .before .before .before .before .before .before .before .pre .0, c .before .before .before .before .before .before .before .before .pre .1)
+replay-records-requires c κs = let a = c .before .before .before .before .before .before .before .before .before .args in let l = c .before .before .before .before .load-whole in (loaded-formed (a .came .now) (a .tail .now) (l .result .answer) (machineOf (l .result .machine)) (l .ensures ∙ ap (loadOf (a .came .now)) (c .before .before .before .before .before .fresh .ensures .0)) (c .before .before .enum-told .given .1) (λ (i : ℕ). omega (arith, c .before .before .before .before .before .before .before .before .shared-slice-known .given i)), c .before .before .before .before .before .before .before .before .before .pre .0, c .before .before .before .before .before .before .before .before .before .pre .1)
 
 returns : tie.Need-returns
-returns c = let a = c .before .before .before .before .before .before .before .before .before .before .before .before .before .args in subst (λ (l : List ℕ). Wrote (a .out .now) 0 l (c .before .before .put-number-line .last .0) (c .before .before .put-number-line .result)) (ap (numberLine badImageWord) (c .before .before .before .bad-offset .ensures) ∙ parts-bad (a .came .now) (a .tail .now) (c .before .before .before .before .before .before .before .before .before .load-whole .result .answer) (machineOf (c .before .before .before .before .before .before .before .before .before .load-whole .result .machine)) (c .before .before .before .before .before .before .before .before .before .load-whole .ensures) (c .before .before .before .before .before .before .before .answer .given .0 .0) (c .before .before .before .before .before .before .before .answer .given .1)) (c .before .before .put-number-line .ensures .0)
+returns c = let a = c .before .before .before .before .before .before .before .before .before .before .before .before .before .before .args in let l = c .before .before .before .before .before .before .before .before .before .load-whole in subst (λ (l : List ℕ). Wrote (a .out .now) 0 l (c .before .before .put-number-line .last .0) (c .before .before .put-number-line .result)) (ap (numberLine badImageWord) (c .before .before .before .bad-offset .ensures) ∙ parts-bad (a .came .now) (a .tail .now) (l .result .answer) (machineOf (l .result .machine)) (l .ensures ∙ ap (loadOf (a .came .now)) (c .before .before .before .before .before .before .before .before .before .before .fresh .ensures .0)) (c .before .before .before .before .before .before .before .answer .given .0 .0) (c .before .before .before .before .before .before .before .answer .given .1)) (c .before .before .put-number-line .ensures .0)
 
 returns-2 : tie.Need-returns-2
-returns-2 c = let a = c .before .before .before .before .before .before .before .before .before .before .before .args in subst (λ (l : List ℕ). Wrote (a .out .now) 0 l (c .before .before .replay-records .last .1 .1 .1 .0) (c .before .before .replay-records .result)) (parts-taken (a .came .now) (a .tail .now) (c .before .before .before .before .before .before .before .load-whole .result .answer) (machineOf (c .before .before .before .before .before .before .before .load-whole .result .machine)) (c .before .before .before .before .before .before .before .load-whole .ensures) (c .before .before .before .before .before .enum-told .given .1)) (c .before .before .replay-records .ensures)
+returns-2 c = let a = c .before .before .before .before .before .before .before .before .before .before .before .before .args in let l = c .before .before .before .before .before .before .before .load-whole in subst (λ (l : List ℕ). Wrote (a .out .now) 0 l (c .before .before .replay-records .last .1 .1 .1 .0) (c .before .before .replay-records .result)) (parts-taken (a .came .now) (a .tail .now) (l .result .answer) (machineOf (l .result .machine)) (l .ensures ∙ ap (loadOf (a .came .now)) (c .before .before .before .before .before .before .before .before .fresh .ensures .0)) (c .before .before .before .before .before .enum-told .given .1)) (c .before .before .replay-records .ensures)
 
 pub replay-parts-spec : {M : Type 1} → statement M
 replay-parts-spec =
     tie.close
     (tie.spec
     (λ c κs. search needs)
+    (λ c κs. search needs)
     (λ c. search needs)
     (λ c. search needs)
     (λ c κs. search needs)
-    put-number-line-requires
+    (λ c κs. search needs)
     (λ c. search needs)
     replay-records-requires
     (λ c. search needs)

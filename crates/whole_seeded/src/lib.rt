@@ -1,8 +1,8 @@
-// The image of a seed's machine.
+// The machine of a seed, and the digest of a machine, by value.
 ghost use mathlib.Core.Path.{_≡_};
 ghost use Rattle.machine.specs.Fresh.{machineOf};
-ghost use Rattle.image.specs.Calls.{saveOf};
-ghost use Rattle.replay_vectors.specs.Saved.{seededMachine};
+ghost use Rattle.seeded.specs.Digest.{digestOf};
+ghost use Rattle.whole_seeded.specs.Seeded.{seededMachine};
 use machine::fresh::WholeMachine;
 use machine::sizes::CONFIG_WORDS;
 use machine::sizes::DEST_CELLS;
@@ -11,8 +11,7 @@ use machine::sizes::GPRS;
 use machine::sizes::SETTINGS;
 use machine::sizes::SOURCE_CELLS;
 
-// The machine of a seed.
-fn seeded_machine(seed: u32) -> WholeMachine
+pub fn seeded_machine(seed: u32) -> WholeMachine
     ensures { λ r. ⌜ machineOf r ≡ seededMachine seed ⌝ }
 {
     let mut settings = [0; SETTINGS];
@@ -44,9 +43,8 @@ fn seeded_machine(seed: u32) -> WholeMachine
     }
 }
 
-// Saves a machine from the start of `out`.
-fn save_machine(m: WholeMachine, out: &mut [u8])
-    ensures { λ _. ⌜ now (out .exit) ≡ saveOf (machineOf m) (now (out .entry)) .out ⌝ }
+pub fn digest_whole(m: WholeMachine) -> u32
+    ensures { λ r. ⌜ r ≡ digestOf (machineOf m) ⌝ }
 {
     let settings = m.settings;
     let gprs = m.gprs;
@@ -55,7 +53,7 @@ fn save_machine(m: WholeMachine, out: &mut [u8])
     let marks = m.marks;
     let src_a = m.src_a;
     let src_b = m.src_b;
-    image::save(
+    seeded::digest::digest(
         m.control,
         &settings,
         &gprs,
@@ -64,13 +62,5 @@ fn save_machine(m: WholeMachine, out: &mut [u8])
         &marks,
         &src_a,
         &src_b,
-        out,
-    );
-}
-
-// Saves a seed's machine from the start of `out`.
-pub fn save_seeded(seed: u32, out: &mut [u8])
-    ensures { λ _. ⌜ now (out .exit) ≡ saveOf (seededMachine seed) (now (out .entry)) .out ⌝ }
-{
-    save_machine(seeded_machine(seed), out);
+    )
 }

@@ -1,15 +1,15 @@
 use Rattle.machine.specs.Fresh.{freshStores}
-use Rattle.repeated.specs.Seeds.{drawnMachine}
+use Rattle.whole_seeded.specs.Seeded.{seededMachine}
 use borrow.Author.Needs.{needs}
-use Rattle.repeated.proofs.whole.drawn_machine.Statement.{statement}
-use Rattle.repeated.proofs.whole.drawn_machine.Tie as tie
+use Rattle.whole_seeded.proofs.seeded_machine.Statement.{statement}
+use Rattle.whole_seeded.proofs.seeded_machine.Tie as tie
 
 returns : tie.Need-returns
-unfolding drawnMachine freshStores
+unfolding seededMachine freshStores
 returns c = c .before .before .before .before .before .before .before .fill-machine .ensures
 
-pub drawn-machine-spec : {M : Type 1} → statement M
-drawn-machine-spec =
+pub seeded-machine-spec : {M : Type 1} → statement M
+seeded-machine-spec =
     tie.close
     (tie.spec
     (λ c. search needs)
