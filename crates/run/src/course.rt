@@ -4,14 +4,28 @@ ghost use Rattle.machine.specs.Machine.{machine, stores};
 ghost use Rattle.turns.specs.Streams.{streams};
 ghost use Rattle.run_rules.specs.Ready.{Ready};
 ghost use Rattle.run_rules.specs.Run.{runFrom, summaryOf, summary};
+ghost use Rattle.run.specs.Ran.{ran};
 use crate::Ran;
 use crate::turn::turn;
 use machine::control::Control;
 use turns::cursor::Cursor;
+use turns::ending::Ending;
 use turns::ending::Halt;
 use turns::ending::halted;
 use turns::ending::quiet_after;
 use turns::ending::refused_word;
+
+// The run, where it ends.
+fn ended(answer: Ending, turns: u32, control: Control, cursor: Cursor) -> Ran
+    ensures { λ r. ⌜ r ≡ ran answer turns control cursor ⌝ }
+{
+    Ran {
+        answer,
+        turns,
+        control,
+        cursor,
+    }
+}
 
 // Takes turns until the run ends. Internal: the call was not refused.
 pub fn take_turns(
@@ -39,12 +53,7 @@ pub fn take_turns(
     loop {
         let h = halted(s0, s1, s2, c, quiet, budget - turns);
         if let Halt::Ends(answer) = h {
-            return Ran {
-                answer,
-                turns,
-                control: k,
-                cursor: c,
-            };
+            return ended(answer, turns, k, c);
         }
         let t = turn(
             k,
@@ -66,12 +75,7 @@ pub fn take_turns(
         turns += 1;
         let e = refused_word(o);
         if let Halt::Ends(answer) = e {
-            return Ran {
-                answer,
-                turns,
-                control: k,
-                cursor: c,
-            };
+            return ended(answer, turns, k, c);
         }
         quiet = quiet_after(o, quiet);
     }

@@ -3,10 +3,7 @@ use Rattle.run_rules.proofs.Isolation.{isolated}
 use Rattle.run_rules.proofs.Kept.{run-keeps}
 use Rattle.run_rules.proofs.promises.Statement.{statement}
 use Rattle.run_rules.proofs.promises.Tie as tie
-use Rattle.run_rules.proofs.promises.Reads as reads
-use Rattle.run_rules.proofs.promises.Lts as lts
 
--- src/lib.rt:89:1
 returns : tie.Need-returns
 returns c = (isolated, (run-keeps, stuck-for-good))
 

@@ -4,9 +4,6 @@ use native.Mathlib.Omega.{arith}
 use lib.ListN.{length, length-set}
 use Rattle.replay_vectors.proofs.case.fill_to.Statement.{statement}
 use Rattle.replay_vectors.proofs.case.fill_to.Tie as tie
-use Rattle.replay_vectors.proofs.case.fill_to.Reads as reads
-use Rattle.replay_vectors.proofs.case.fill_to.Lts as lts
-use Rattle.replay_vectors.proofs.case.end_of.Reads as end-of-reads
 
 abbrev Inv-loop : tie.InvT-loop
 Inv-loop room₀ at n end i₀ room i = (at ≤ end) × (end ≤ length room₀) × (length room ≡ length room₀)
@@ -14,35 +11,27 @@ Inv-loop room₀ at n end i₀ room i = (at ≤ end) × (end ≤ length room₀)
 abbrev μ-loop : tie.MeasureT-loop
 μ-loop room₀ at n end i₀ room i = end - i
 
--- src/case.rt:59:9
 end-of-requires : tie.Need-end-of-requires Inv-loop μ-loop
 end-of-requires c κs = omega arith
 
--- src/case.rt:61:5
 loop-holds : tie.Need-loop-holds Inv-loop μ-loop
 loop-holds c = (omega arith, omega arith, refl)
 
--- src/case.rt:62:9
 slice-write-room : tie.Need-slice-write-room Inv-loop μ-loop
 slice-write-room c = omega arith
 
--- src/case.rt:63:9
 add-i : tie.Need-add-i Inv-loop μ-loop
 add-i c = omega arith
 
--- src/case.rt:61:5
 loop-less : tie.Need-loop-less Inv-loop μ-loop
 loop-less c = omega arith
 
--- src/case.rt:61:5
 loop-again : tie.Need-loop-again Inv-loop μ-loop
 loop-again c = (omega arith, omega arith, simp length-set (c .before .loop .inv .2))
 
--- src/case.rt:55:1
 same-length : tie.Need-same-length Inv-loop μ-loop
 same-length c = c .before .loop .inv .2
 
--- src/case.rt:55:1
 returns : tie.Need-returns Inv-loop μ-loop
 returns c = (omega arith, omega arith)
 

@@ -3,22 +3,14 @@ use Rattle.turns.specs.Cursor.{following}
 use borrow.Author.Needs.{needs}
 use Rattle.turns.proofs.cursor.following_thread.Statement.{statement}
 use Rattle.turns.proofs.cursor.following_thread.Tie as tie
-use Rattle.turns.proofs.cursor.following_thread.Reads as reads
-use Rattle.turns.proofs.cursor.following_thread.Lts as lts
 
--- src/cursor.rt:20:16
-add-result : tie.Need-add-result
-add-result c = search needs
-
--- src/cursor.rt:17:1
 returns : tie.Need-returns
 unfolding following
 returns c = simp (lt-ltb _ _ (c .if1 .taken))
 
--- src/cursor.rt:17:1
 returns-2 : tie.Need-returns-2
 unfolding following
 returns-2 c = simp (le-ltb _ _ (c .if1 .left))
 
 pub following-thread-spec : {M : Type 1} → statement M
-following-thread-spec = tie.close (tie.spec add-result returns returns-2)
+following-thread-spec = tie.close (tie.spec (λ c. search needs) returns returns-2)

@@ -4,33 +4,22 @@ use Rattle.turns.specs.Ending.{haltOf}
 use borrow.Author.Needs.{needs}
 use Rattle.turns.proofs.ending.halted.Statement.{statement}
 use Rattle.turns.proofs.ending.halted.Tie as tie
-use Rattle.turns.proofs.ending.halted.Reads as reads
-use Rattle.turns.proofs.ending.halted.Lts as lts
-use Rattle.turns.proofs.streams.used_up.Reads as used-up-reads
 
--- src/ending.rt:30:8
-used-up-requires : tie.Need-used-up-requires
-used-up-requires c κs = search needs
-
--- src/ending.rt:31:9
 returns : tie.Need-returns
 unfolding haltOf
 returns c = simp (sym (c .before .used-up .ensures) ∙ c .if1 .taken)
 
--- src/ending.rt:34:9
 returns-2 : tie.Need-returns-2
 unfolding haltOf
 returns-2 c = simp (sym (c .before .before .used-up .ensures) ∙ c .before .if1 .left, le-leb _ _ (c .if2 .taken))
 
--- src/ending.rt:37:9
 returns-3 : tie.Need-returns-3
 unfolding haltOf
 returns-3 c = simp (sym (c .before .before .before .used-up .ensures) ∙ c .before .before .if1 .left, lt-leb _ _ (c .before .if2 .left), eq-eqb _ _ (c .if3 .taken))
 
--- src/ending.rt:27:1
 returns-4 : tie.Need-returns-4
 unfolding haltOf
 returns-4 c = simp (sym (c .before .before .before .used-up .ensures) ∙ c .before .before .if1 .left, lt-leb _ _ (c .before .if2 .left), ne-eqb _ _ (c .if3 .left))
 
 pub halted-spec : {M : Type 1} → statement M
-halted-spec = tie.close (tie.spec used-up-requires returns returns-2 returns-3 returns-4)
+halted-spec = tie.close (tie.spec (λ c κs. search needs) returns returns-2 returns-3 returns-4)
