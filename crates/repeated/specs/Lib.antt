@@ -1,1 +1,3 @@
-pub mod Seeds
+pub mod Again
+pub mod Repeats
+pub mod Told

@@ -1,4 +1,4 @@
-// Saves and loads of the machine of a seed, and expansions, repeated, so that they can be timed.
+// Saves, loads and expansions made so many times, each on what the one before left, so that they can be timed.
 pub mod expansions;
-pub mod images;
-pub mod whole;
+mod images;
+pub mod told;

@@ -1,70 +1,53 @@
-// Runs, one after the other on the machine of a seed, so that they can be timed. A control part is made before the parts are lent:
-// a proof writes out the type of a value that is not there yet, at every step.
+// Runs of the same streams, each from their start on the machine that the one before left, so that they can be timed.
+ghost use mathlib.Core.Path.{_≡_};
+ghost use Rattle.machine.specs.Machine.{machine, stores};
+ghost use Rattle.machine.specs.Fresh.{machineOf};
+ghost use Rattle.turns.specs.Streams.{streams};
+ghost use Rattle.run_rules.specs.Run.{summary};
+ghost use Rattle.whole_runs.specs.Ran.{ranSummary};
+ghost use Rattle.whole_seeded.specs.Seeded.{seedMachine, withFreshControl};
+ghost use Rattle.repeated_runs.specs.Runs.{startCursor, laterRan, runsOf, endingNumber, runTold};
+use machine::control::Control;
 use machine::fresh::WholeMachine;
 use machine::refusal::refusal_number;
-use repeated::whole::fresh_control;
-use repeated::whole::machine_of;
 use run::Ran;
 use std::num::wrapping_add_u32;
 use turns::cursor::Cursor;
 use turns::ending::Ending;
+use whole_runs::WholeRan;
 use whole_seeded::digest_whole;
+use whole_seeded::with_fresh_control;
 
-// How the last run ended, the turns of all, and the machine's digest after them.
-pub struct Told {
-    pub ending: u32,
-    pub turns: u32,
-    pub sum: u32,
-}
-
-// 0 finished, 1 stuck, 2 budget; a refused word is 100 more than its number, a refused call 200 more.
-fn ending_number(e: Ending) -> u32 {
-    match e {
-        Ending::Finished => 0,
-        Ending::Stuck => 1,
-        Ending::BudgetUsed => 2,
-        Ending::WordRefused(r) => wrapping_add_u32(100, refusal_number(r)),
-        Ending::CallRefused(r) => wrapping_add_u32(200, refusal_number(r)),
+// All positions at the start, thread 0 next.
+fn start() -> Cursor
+    ensures { λ r. ⌜ r ≡ startCursor ⌝ }
+{
+    Cursor {
+        at0: 0,
+        at1: 0,
+        at2: 0,
+        next: 0,
     }
 }
 
-// A run of no turns, on a fresh control part.
-fn no_run() -> Ran {
-    Ran {
-        answer: Ending::Finished,
-        turns: 0,
-        control: fresh_control(),
-        cursor: Cursor {
-            at0: 0,
-            at1: 0,
-            at2: 0,
-            next: 0,
-        },
-    }
-}
-
-// What the runs left: the last one's answer, the turns of all, and the machine.
-struct After {
-    answer: Ending,
-    turns: u32,
-    machine: WholeMachine,
-}
-
-// The run, with so many turns.
-fn with_turns(ran: Ran, turns: u32) -> Ran {
+// The run, with so many turns before it.
+fn later(turns: u32, ran: Ran) -> Ran
+    ensures { λ r. ⌜ r ≡ laterRan turns ran ⌝ }
+{
     let answer = ran.answer;
     let control = ran.control;
     let cursor = ran.cursor;
     Ran {
         answer,
-        turns,
+        turns: wrapping_add_u32(turns, ran.turns),
         control,
         cursor,
     }
 }
 
-// From the streams' start each time, on the machine that the last one left. The last run, with the turns of all.
-fn repeat_runs(
+// Runs on the machine lent.
+fn run_lent(
+    control: Control,
     settings: &mut [u16],
     gprs: &mut [u32],
     config: &mut [u32],
@@ -77,15 +60,19 @@ fn repeat_runs(
     s2: &[u32],
     budget: u32,
     times: u32,
-) -> Ran {
-    let mut ran = no_run();
-    let cursor = ran.cursor;
-    let mut k = ran.control;
-    let mut turns: u32 = 0;
+) -> Ran
+    ensures { λ r. ⌜ summary (r .answer) (r .turns) (machine (r .control) (now (settings .exit)) (stores (now (gprs .exit)) (now (config .exit)) (now (dest .entry)) (now (marks .exit)) (now («src_a» .exit)) (now («src_b» .exit)))) (r .cursor) ≡ runsOf (streams (now (s0 .entry)) (now (s1 .entry)) (now (s2 .entry))) budget times (machine control (now (settings .entry)) (stores (now (gprs .entry)) (now (config .entry)) (now (dest .entry)) (now (marks .entry)) (now («src_a» .entry)) (now («src_b» .entry)))) ⌝ }
+{
+    let mut ran = Ran {
+        answer: Ending::Finished,
+        turns: 0,
+        control,
+        cursor: start(),
+    };
     let mut left = times;
     while 0 < left {
-        ran = run::run(
-            k,
+        let next = run::run(
+            ran.control,
             settings,
             gprs,
             config,
@@ -96,25 +83,26 @@ fn repeat_runs(
             s0,
             s1,
             s2,
-            cursor,
+            start(),
             budget,
         );
-        k = ran.control;
-        turns = wrapping_add_u32(turns, ran.turns);
+        ran = later(ran.turns, next);
         left -= 1;
     }
-    with_turns(ran, turns)
+    ran
 }
 
-// The runs on the machine's stores, with a fresh control part.
-fn run_whole(
+// What the last run answered, the turns of all, and the machine; finished after no turn where there is none.
+fn repeat_runs(
     m: WholeMachine,
     s0: &[u32],
     s1: &[u32],
     s2: &[u32],
     budget: u32,
     times: u32,
-) -> After {
+) -> WholeRan
+    ensures { λ r. ⌜ ranSummary r ≡ runsOf (streams (now (s0 .entry)) (now (s1 .entry)) (now (s2 .entry))) budget times (machineOf m) ⌝ }
+{
     let mut settings = m.settings;
     let mut gprs = m.gprs;
     let mut config = m.config;
@@ -122,7 +110,8 @@ fn run_whole(
     let mut marks = m.marks;
     let mut src_a = m.src_a;
     let mut src_b = m.src_b;
-    let ran = repeat_runs(
+    let ran = run_lent(
+        m.control,
         &mut settings,
         &mut gprs,
         &mut config,
@@ -137,6 +126,7 @@ fn run_whole(
         times,
     );
     let answer = ran.answer;
+    let cursor = ran.cursor;
     let control = ran.control;
     let machine = WholeMachine {
         control,
@@ -148,25 +138,49 @@ fn run_whole(
         src_a,
         src_b,
     };
-    After {
+    WholeRan {
         answer,
         turns: ran.turns,
+        cursor,
         machine,
     }
 }
 
-fn told_of(after: After) -> Told {
-    let answer = after.answer;
-    let machine = after.machine;
+// 0 finished, 1 stuck, 2 budget; a refused word is 100 more than its number, a refused call 200 more.
+fn ending_number(e: Ending) -> u32
+    ensures { λ r. ⌜ r ≡ endingNumber e ⌝ }
+{
+    match e {
+        Ending::Finished => 0,
+        Ending::Stuck => 1,
+        Ending::BudgetUsed => 2,
+        Ending::WordRefused(r) => wrapping_add_u32(100, refusal_number(r)),
+        Ending::CallRefused(r) => wrapping_add_u32(200, refusal_number(r)),
+    }
+}
+
+// How the last run ended, the turns of all, and the machine's digest after them.
+pub struct Told {
+    pub ending: u32,
+    pub turns: u32,
+    pub sum: u32,
+}
+
+fn told_of(ran: WholeRan) -> Told
+    ensures { λ r. ⌜ r ≡ runTold (ranSummary ran) ⌝ }
+{
+    let answer = ran.answer;
+    let machine = ran.machine;
     Told {
         ending: ending_number(answer),
-        turns: after.turns,
+        turns: ran.turns,
         sum: digest_whole(machine),
     }
 }
 
-// The runs on the stores of the seed with a fresh control part.
-pub fn run_machine(seed: u32, s0: &[u32], s1: &[u32], s2: &[u32], budget: u32, times: u32) -> Told {
-    let m = machine_of(seed);
-    told_of(run_whole(m, s0, s1, s2, budget, times))
+// Runs on the stores of the seed's machine, with a fresh control part.
+pub fn tell_runs(seed: u32, s0: &[u32], s1: &[u32], s2: &[u32], budget: u32, times: u32) -> Told
+    ensures { λ r. ⌜ r ≡ runTold (runsOf (streams (now (s0 .entry)) (now (s1 .entry)) (now (s2 .entry))) budget times (withFreshControl (seedMachine seed))) ⌝ }
+{
+    told_of(repeat_runs(with_fresh_control(seed), s0, s1, s2, budget, times))
 }

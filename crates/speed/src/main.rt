@@ -2,10 +2,10 @@
 // jobs one after the other. A line is the job's kind, what the last call answered, and a checksum.
 ghost use mathlib.Core.Path.{_≡_};
 ghost use lib.ListN.{length};
+use format::number::read;
 use jobs::Job;
 use jobs::Line;
 use jobs::do_job;
-use jobs::job_of;
 use jobs::words_of;
 use libc::STDIN_FILENO;
 use libc::STDOUT_FILENO;
@@ -14,6 +14,19 @@ use libc::STDOUT_FILENO;
 const WORDS_MOST: usize = 196608;
 
 const BYTES_MOST: usize = 786432;
+
+// A job is seven numbers of 4 bytes, and then its words.
+fn job_of(record: &[u8; 28]) -> Job {
+    Job {
+        kind: read(record, 0, 4),
+        times: read(record, 4, 4),
+        seed: read(record, 8, 4),
+        limit: read(record, 12, 4),
+        n0: read(record, 16, 4),
+        n1: read(record, 20, 4),
+        n2: read(record, 24, 4),
+    }
+}
 
 // The next job of standard input; where there is none, one of no kind.
 fn next_job() -> Job {
@@ -86,7 +99,7 @@ fn do_with_words(j: Job, room: &mut [u8], words: &mut [u32]) -> bool {
     if !read_words(room, &mut words[..n]) {
         return false;
     }
-    told(j.kind, do_job(j, room, words))
+    told(j.kind, do_job(j, words))
 }
 
 // Reads a job and does it; false where there is none.

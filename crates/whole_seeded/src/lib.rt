@@ -2,8 +2,9 @@
 ghost use mathlib.Core.Path.{_≡_};
 ghost use Rattle.machine.specs.Fresh.{machineOf};
 ghost use Rattle.seeded.specs.Digest.{digestOf};
-ghost use Rattle.whole_seeded.specs.Seeded.{seededMachine};
+ghost use Rattle.whole_seeded.specs.Seeded.{seededMachine, seedMachine, withFreshControl};
 use machine::fresh::WholeMachine;
+use machine::fresh::fresh;
 use machine::sizes::CONFIG_WORDS;
 use machine::sizes::DEST_CELLS;
 use machine::sizes::DEST_ROWS;
@@ -63,4 +64,25 @@ pub fn digest_whole(m: WholeMachine) -> u32
         &src_a,
         &src_b,
     )
+}
+
+// The machine of a seed; of 0, a fresh one.
+pub fn machine_of(seed: u32) -> WholeMachine
+    ensures { λ r. ⌜ machineOf r ≡ seedMachine seed ⌝ }
+{
+    if seed == 0 {
+        return fresh();
+    }
+    seeded_machine(seed)
+}
+
+// The same, with a fresh control part.
+pub fn with_fresh_control(seed: u32) -> WholeMachine
+    ensures { λ r. ⌜ machineOf r ≡ withFreshControl (seedMachine seed) ⌝ }
+{
+    let f = fresh();
+    let control = f.control;
+    let mut m = machine_of(seed);
+    m.control = control;
+    m
 }

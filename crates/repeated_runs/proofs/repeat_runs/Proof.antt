@@ -1,34 +1,25 @@
-use mathlib.Core.Path.{_≡_}
-use lib.ListN.{length}
+use lib.ListN.{length-map}
+use mathlib.Core.Path.{sym}
 use borrow.Author.Needs.{needs}
 use Rattle.repeated_runs.proofs.repeat_runs.Statement.{statement}
 use Rattle.repeated_runs.proofs.repeat_runs.Tie as tie
 
-abbrev Inv-loop : tie.InvT-loop
-Inv-loop settings₀ gprs₀ config₀ dest marks₀ src-a₀ src-b₀ s0 s1 s2 budget times ran₀ cursor k₀ turns₀ left₀ settings gprs config marks src-a src-b ran k turns left =
-    (length settings ≡ length settings₀) × (length gprs ≡ length gprs₀) × (length config ≡ length config₀) × (length marks ≡ length marks₀) × (length src-a ≡ length src-a₀) × (length src-b ≡ length src-b₀)
+slice-aggregate-run-lent-6 : tie.Need-slice-aggregate-run-lent-6
+slice-aggregate-run-lent-6 c = sym (simp length-map at (c .before .before .before .before .before .before .before .before .before .before .before .before .before .before .before .before .good .0 .1 .1 .1 .1 .1 .1 .1 .1 .0 .1 .0 .1))
 
-abbrev μ-loop : tie.MeasureT-loop
-μ-loop settings₀ gprs₀ config₀ dest marks₀ src-a₀ src-b₀ s0 s1 s2 budget times ran₀ cursor k₀ turns₀ left₀ settings gprs config marks src-a src-b ran k turns left = left
+slice-aggregate-run-lent-7 : tie.Need-slice-aggregate-run-lent-7
+slice-aggregate-run-lent-7 c = sym (simp length-map at (c .before .before .before .before .before .before .before .before .before .before .before .before .before .before .before .before .before .good .0 .1 .1 .1 .1 .1 .1 .1 .1 .1 .0 .1 .0 .1))
 
 pub repeat-runs-spec : {M : Type 1} → statement M
 repeat-runs-spec =
     tie.close
     (tie.spec
-    Inv-loop
-    μ-loop
+    (λ c. search needs)
+    (λ c. search needs)
+    (λ c. search needs)
+    (λ c. search needs)
+    (λ c. search needs)
+    slice-aggregate-run-lent-6
+    slice-aggregate-run-lent-7
     (λ c κs. search needs)
-    (λ c. search needs)
-    (λ c κs. search needs)
-    (λ c κs. search needs)
-    (λ c. search needs)
-    (λ c. search needs)
-    (λ c. search needs)
-    (λ c κs. search needs)
-    (λ c. search needs)
-    (λ c. search needs)
-    (λ c. search needs)
-    (λ c. search needs)
-    (λ c. search needs)
-    (λ c. search needs)
     (λ c. search needs))

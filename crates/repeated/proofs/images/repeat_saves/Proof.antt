@@ -1,16 +1,23 @@
-use mathlib.Core.Path.{_≡_}
-use lib.ListN.{length}
+use lib.ListN.{length-map}
+use mathlib.Core.Path.{sym}
 use borrow.Author.Needs.{needs}
 use Rattle.repeated.proofs.images.repeat_saves.Statement.{statement}
 use Rattle.repeated.proofs.images.repeat_saves.Tie as tie
 
-abbrev Inv-loop : tie.InvT-loop
-Inv-loop control settings gprs config dest marks src-a src-b out₀ times answer₀ left₀ out answer left = length out ≡ length out₀
-
-abbrev μ-loop : tie.MeasureT-loop
-μ-loop control settings gprs config dest marks src-a src-b out₀ times answer₀ left₀ out answer left = left
+slice-aggregate-save-lent-7 : tie.Need-slice-aggregate-save-lent-7
+slice-aggregate-save-lent-7 c = sym (simp length-map at (c .before .before .before .before .before .before .before .before .before .before .before .before .before .before .before .good .0 .1 .1 .1 .1 .1 .1 .1 .1 .1 .0 .1 .0 .1))
 
 pub repeat-saves-spec : {M : Type 1} → statement M
 repeat-saves-spec =
     tie.close
-    (tie.spec Inv-loop μ-loop (λ c. search needs) (λ c κs. search needs) (λ c κs. search needs) (λ c. search needs) (λ c. search needs) (λ c. search needs) (λ c. search needs) (λ c. search needs))
+    (tie.spec
+    (λ c. search needs)
+    (λ c. search needs)
+    (λ c. search needs)
+    (λ c. search needs)
+    (λ c. search needs)
+    (λ c. search needs)
+    slice-aggregate-save-lent-7
+    (λ c κs. search needs)
+    (λ c. search needs)
+    (λ c. search needs))
