@@ -124,8 +124,6 @@ SINGLE = {
     'TRNSPSRCB': lambda d: asm.trnspsrcb(),
 }
 
-SLOW = ('ZEROACC of a half', 'ZEROACC of all')
-
 
 def single_streams(name, words=8192):
     """SrcB's bank is handed to Matrix first."""

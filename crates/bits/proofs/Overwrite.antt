@@ -1,11 +1,11 @@
 -- Laws of a list written over from a place on.
 use Prim.Native.Nat.{ℕ, _+_, _≤_, _<_}
 use mathlib.Core.Path.{_≡_, sym, _∙_}
-use mathlib.Core.List.{List, [], _∷_, _++_, append-assoc}
+use mathlib.Core.List.{List, [], _∷_, _++_, append-assoc, append-nil}
 use native.Mathlib.Nat.{add-assoc, add-zero}
 use native.Mathlib.Numerals.{add-one}
 use native.Mathlib.Omega.{arith}
-use lib.ListN.{length, take, drop, set, length-take, length-drop, length-append, take-append-drop}
+use lib.ListN.{length, take, drop, set, length-take, length-drop, length-append, take-append-drop, drop-of-length-le}
 use lib.Seq.{take-at, drop-at, drop-drop, set-split}
 use Rattle.bits.specs.Overwrite.{over, Wrote}
 
@@ -36,6 +36,13 @@ over-set l k v h = rw (add-one k) (set-split l k v h)
 pub over-none : {A : Type 0} (l : List A) (k : ℕ) → over l k [] ≡ l
 unfolding over
 over-none l k = rw add-zero (take-append-drop k l)
+
+-- a list written over whole
+pub over-whole : {A : Type 0} (l vs : List A) → length l ≤ length vs → over l 0 vs ≡ vs
+unfolding over
+over-whole l vs h =
+    let e : drop (0 + length vs) l ≡ [] = drop-of-length-le l {i = 0 + length vs} (omega arith) in
+    rw e (append-nil vs)
 
 -- two writes in a row are one
 pub wrote-then : {A : Type 0} {l m n : List A} {k j i : ℕ} {a b : List A} → Wrote l k a m j → Wrote m j b n i → k ≤ length l → Wrote l k (a ++ b) n i

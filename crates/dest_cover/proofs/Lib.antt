@@ -1,3 +1,4 @@
 pub mod Tests
 pub mod Cover
 pub mod Apart
+pub mod Halves

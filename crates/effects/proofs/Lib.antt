@@ -3,7 +3,7 @@ pub mod ValueLaws
 pub mod FaceLaws
 pub mod ByteLaws
 pub mod MarkLaws
-pub mod AllCleared
+pub mod PartsCleared
 pub mod Lengths
 pub mod Ranges
 pub mod Keeps

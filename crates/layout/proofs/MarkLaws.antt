@@ -2,12 +2,12 @@
 use Prim.Native.Nat.{ℕ, zero, suc, _+_, _*_, _-_, _/_, _%_, _^_, _≤_, _<_}
 use mathlib.Core.Path.{_≡_, refl, sym, ap, ap₂, _∙_}
 use mathlib.Core.Bool.{Bool, true, false}
-use mathlib.Core.List.{List, [], _∷_, _++_, append-nil}
-use native.Mathlib.Nat.{zero-add, pow-suc, suc-mul, mul-comm, div-one, div-div-eq-div-mul, lt-of-lt-of-le, pow-le-pow-right}
+use mathlib.Core.List.{List, [], _∷_, _++_}
+use native.Mathlib.Nat.{pow-suc, suc-mul, mul-comm, div-one, div-div-eq-div-mul, lt-of-lt-of-le, pow-le-pow-right}
 use native.Mathlib.Omega.{arith}
 use lib.Dec.{eqb, ltb, lit<}
 use lib.ListN.{length, take, drop, getD, set, length-append, length-drop, take-append-drop, List·getD-append}
-use lib.Seq.{length-take-le, take-at, drop-at, drop-cons, drop-drop, drop-length, getD-drop, getD-append-add}
+use lib.Seq.{length-take-le, take-at, drop-at, drop-cons, drop-drop, getD-drop, getD-append-add}
 use borrow.Author.Tests.{eq-eqb, ne-eqb, ltb-true, ltb-false}
 use Rattle.bits.specs.Field.{lowBit, flag}
 use Rattle.bits.specs.Bytes.{le}
@@ -173,11 +173,6 @@ marks-next n at i s m next h room e =
     let v = unpack 8 (getD s (at + i) 0) in
     let g : 8 * i + length v ≡ 8 * (i + 1) = omega (arith, unpack-long 8 (getD s (at + i) 0)) in
     rw (k, drop-drop 1 (at + i) s, f, e, ← g, ← le-byte (at + i) s) (over-over m (8 * i) v _ (omega arith))
-
--- a list that is written over whole
-pub over-whole : {A : Type 0} (l a : List A) → length a ≡ length l → over l 0 a ≡ a
-unfolding over
-over-whole l a e = rw (zero-add, e, drop-length) (append-nil a)
 
 -- ---- row r's mark is bit r mod 8 of byte r / 8
 unpack-at : (k j n : ℕ) → j < k → getD (unpack k n) j false ≡ flag j n

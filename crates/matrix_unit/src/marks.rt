@@ -1,8 +1,9 @@
 // ZEROACC: the valid marks of Dest's storage rows, cleared by rows of a view.
 ghost use mathlib.Core.Path.{_≡_};
-ghost use Prim.Native.Nat.{_+_, _≤_, _<_};
+ghost use Prim.Native.Nat.{_+_, _*_, _≤_, _<_};
 ghost use mathlib.Core.Bool.{false};
 ghost use lib.ListN.{length, replicate};
+ghost use Rattle.bits.specs.Overwrite.{over};
 ghost use Rattle.word_rules.specs.MatrixWords.{viewRows};
 ghost use Rattle.word_rules.specs.InRange.{PlaceInView};
 ghost use Rattle.dest.specs.Rows.{rows16};
@@ -92,19 +93,22 @@ pub fn zero_marks(marks: &mut [bool], config: &[u32], bank: usize, mode: u8, wid
     requires { ⌜ (length (now marks) ≡ 1024) × (length (now config) ≡ 512) × (bank < 2) × PlaceInView mode wide place ⌝ }
     ensures whole { λ _. ⌜ now (marks .exit) ≡ afterZeroAcc bank mode wide place (now (config .entry)) (now (marks .entry)) ⌝ }
     ensures rows { λ _. ⌜ RowsCleared wide (flagsIn bank (now (config .entry))) (firstRow mode wide place) (rowCount mode wide) (now (marks .entry)) (now (marks .exit)) ⌝ }
+    ensures half { λ _. ⌜ (mode ≡ 2 → now (marks .exit) ≡ over (now (marks .entry)) (512 * place) (replicate 512 false)) ⌝ }
     ensures all { λ _. ⌜ (mode ≡ 3 → now (marks .exit) ≡ replicate 1024 false) ⌝ }
 {
-    // all of storage, whatever the maps: by the map of no flag it is a fill
-    if mode == 3 {
-        let none = Flags {
-            remap: false,
-            swizzle: false,
-        };
-        clear_rows(marks, none, false, 0, View16Row::ROWS);
+    if mode < 2 {
+        let flags = flags_of(config[config_place(bank, FLAG_WORD)]);
+        let first = first_row(mode, wide, place);
+        let count = row_count(mode, wide);
+        clear_rows(marks, flags, wide, first, count);
         return;
     }
-    let flags = flags_of(config[config_place(bank, FLAG_WORD)]);
-    let first = first_row(mode, wide, place);
-    let count = row_count(mode, wide);
-    clear_rows(marks, flags, wide, first, count);
+    // half of either view is that half of storage, whatever the maps, and all is all: by the map of no flag it is a fill
+    let none = Flags {
+        remap: false,
+        swizzle: false,
+    };
+    let first = first_row(mode, false, place);
+    let count = row_count(mode, false);
+    clear_rows(marks, none, false, first, count);
 }

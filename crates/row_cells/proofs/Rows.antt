@@ -1,20 +1,13 @@
 -- Laws of rows in a store: what is read where a row was written, and elsewhere.
 use Prim.Native.Nat.{ℕ, _+_, _*_, _-_, _≤_, _<_}
-use mathlib.Core.List.{List, [], _++_, append-assoc, append-nil}
+use mathlib.Core.List.{List, _++_, append-assoc}
 use mathlib.Core.Path.{_≡_, refl, sym, _∙_}
 use native.Mathlib.Decide.{decLt}
 use native.Mathlib.Omega.{arith}
-use lib.ListN.{length, take, drop, length-take, length-drop, length-append, take-append-drop, drop-of-length-le}
+use lib.ListN.{length, take, drop, length-take, length-drop, length-append, take-append-drop}
 use lib.Seq.{take-at, drop-at, take-append-le, drop-append-le, drop-drop, length-take-le}
 use Rattle.bits.specs.Overwrite.{over}
 use Rattle.machine.specs.Sizes.{rowCells}
-
--- a list written over whole
-pub over-whole : {A : Type 0} (l vs : List A) → length l ≤ length vs → over l 0 vs ≡ vs
-unfolding over
-over-whole l vs h =
-    let e : drop (0 + length vs) l ≡ [] = drop-of-length-le l {i = 0 + length vs} (omega arith) in
-    rw e (append-nil vs)
 
 pub part-long : {A : Type 0} (l : List A) (p n : ℕ) → p + n ≤ length l → length (take n (drop p l)) ≡ n
 part-long l p n h = length-take-le n (drop p l) (rw length-drop (omega arith))

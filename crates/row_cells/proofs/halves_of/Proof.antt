@@ -5,7 +5,7 @@ use native.Mathlib.Omega.{arith}
 use lib.ListN.{List·getD-map, length-map, replicate}
 use borrow.Author.Needs.{needs}
 use Rattle.row_cells.specs.Cells.{halfAt}
-use Rattle.row_cells.proofs.Rows.{over-whole}
+use Rattle.bits.proofs.Overwrite.{over-whole}
 use Rattle.row_cells.proofs.Writing.{Writing, writing-start, writing-next, writing-done}
 use Rattle.row_cells.proofs.halves_of.Statement.{statement}
 use Rattle.row_cells.proofs.halves_of.Tie as tie

@@ -4,7 +4,8 @@ use native.Mathlib.Omega.{arith}
 use lib.ListN.{replicate, take, drop}
 use borrow.Author.Needs.{needs}
 use Rattle.dest_access.specs.DestRows.{storedRow}
-use Rattle.row_cells.proofs.Rows.{over-whole, part-long}
+use Rattle.bits.proofs.Overwrite.{over-whole}
+use Rattle.row_cells.proofs.Rows.{part-long}
 use Rattle.dest_access.proofs.stored.read_stored.Statement.{statement}
 use Rattle.dest_access.proofs.stored.read_stored.Tie as tie
 

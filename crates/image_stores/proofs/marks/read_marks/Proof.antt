@@ -3,10 +3,10 @@ use mathlib.Core.Path.{_≡_, sym, _∙_}
 use native.Mathlib.Omega.{arith}
 use lib.ListN.{length, drop}
 use Rattle.bits.specs.Overwrite.{over}
-use Rattle.bits.proofs.Overwrite.{over-none}
+use Rattle.bits.proofs.Overwrite.{over-none, over-whole}
 use Rattle.format.specs.Format.{manyGet}
 use Rattle.layout.specs.Marks.{joined}
-use Rattle.layout.proofs.MarkLaws.{marksOf, marks-long, marks-next, over-whole}
+use Rattle.layout.proofs.MarkLaws.{marksOf, marks-long, marks-next}
 use Rattle.image_stores.proofs.marks.read_marks.Statement.{statement}
 use Rattle.image_stores.proofs.marks.read_marks.Tie as tie
 
@@ -46,7 +46,7 @@ same-length c = c .before .loop .inv .1 ∙ sym (c .before .before .before .befo
 
 returns : tie.Need-returns Inv-loop μ-loop
 unfolding joined manyGet
-returns c = let a = c .before .before .before .before .args in let l = c .before .loop in let e : 128 - l .i ≡ 0 = omega arith in sym (over-none (l .marks) (8 * l .i)) ∙ rw e at (l .inv .2) ∙ over-whole (a .marks .now) (marksOf 128 (drop (a .at) (a .s .now))) (marks-long 128 _ ∙ sym (c .before .before .before .before .pre .1))
+returns c = let a = c .before .before .before .before .args in let l = c .before .loop in let e : 128 - l .i ≡ 0 = omega arith in sym (over-none (l .marks) (8 * l .i)) ∙ rw e at (l .inv .2) ∙ over-whole (a .marks .now) (marksOf 128 (drop (a .at) (a .s .now))) (omega (arith, marks-long 128 (drop (a .at) (a .s .now))))
 
 pub read-marks-spec : {M : Type 1} → statement M
 read-marks-spec =
