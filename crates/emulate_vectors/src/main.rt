@@ -1,14 +1,9 @@
 // Runs `emulate` on many inputs: each is its length, 4 bytes little-endian (below 65,536), and its bytes.
 // oracle/cases_emulate.py makes them and the output that is expected.
 ghost use Prim.Native.Nat.{_≤_};
+use format::number::read_half;
 use libc::STDIN_FILENO;
 use libc::STDOUT_FILENO;
-
-fn number(low: u8, high: u8) -> usize
-    ensures { λ r. ⌜ r ≤ 65535 ⌝ }
-{
-    low as usize + 256 * high as usize
-}
 
 // The length of the next input, or none where there is no input left.
 fn next_length() -> usize
@@ -19,7 +14,7 @@ fn next_length() -> usize
     if got < 4 {
         return 65536;
     }
-    number(head[0], head[1])
+    read_half(&head, 0) as usize
 }
 
 // Writes the first m bytes.

@@ -1,35 +1,26 @@
 // A case: seven words of 4 bytes, the lowest byte first.
-ghost use Prim.Native.Nat.{_+_, _≤_};
-ghost use lib.ListN.{length};
 use crate::draws::Mix;
+use format::number::read;
 
-pub struct Case {
-    pub seed: u32,
-    pub high: u16,
-    pub nine_words: usize,
-    pub mix: Mix,
-    pub m0: u32,
-    pub m1: u32,
-    pub stream_words: usize,
-    pub room: usize,
-}
+pub(crate) const BYTES: usize = 28;
 
-fn word_of(b0: u8, b1: u8, b2: u8, b3: u8) -> u32 {
-    b0 as u32 + 256 * (b1 as u32 + 256 * (b2 as u32 + 256 * (b3 as u32)))
-}
-
-fn word_at(record: &[u8; 28], at: usize) -> u32
-    requires { ⌜ at + 4 ≤ 28 ⌝ }
-{
-    word_of(record[at], record[at + 1], record[at + 2], record[at + 3])
+pub(crate) struct Case {
+    pub(crate) seed: u32,
+    pub(crate) high: u16,
+    pub(crate) nine_words: usize,
+    pub(crate) mix: Mix,
+    pub(crate) m0: u32,
+    pub(crate) m1: u32,
+    pub(crate) stream_words: usize,
+    pub(crate) room: usize,
 }
 
 // Seed; high mask and the number of nine words; the mix, a byte each; m0; m1; stream words; room.
-pub fn read(record: &[u8; 28]) -> Case {
-    let lent = word_at(record, 4);
-    let mix = word_at(record, 8);
+pub(crate) fn read_case(record: &[u8; BYTES]) -> Case {
+    let lent = read(record, 4, 4);
+    let mix = read(record, 8, 4);
     Case {
-        seed: word_at(record, 0),
+        seed: read(record, 0, 4),
         high: (lent % 65536) as u16,
         nine_words: (lent / 65536) as usize,
         mix: Mix {
@@ -38,15 +29,15 @@ pub fn read(record: &[u8; 28]) -> Case {
             configs: mix / 65536 % 256,
             counts: mix / 16777216,
         },
-        m0: word_at(record, 12),
-        m1: word_at(record, 16),
-        stream_words: word_at(record, 20) as usize,
-        room: word_at(record, 24) as usize,
+        m0: read(record, 12, 4),
+        m1: read(record, 16, 4),
+        stream_words: read(record, 20, 4) as usize,
+        room: read(record, 24, 4) as usize,
     }
 }
 
 // m0 and m1 come from the case, where so many words are lent.
-pub fn set_counts(nine: &mut [u32], m0: u32, m1: u32) {
+pub(crate) fn set_counts(nine: &mut [u32], m0: u32, m1: u32) {
     if 1 < nine.len() {
         nine[0] = m0;
         nine[1] = m1;

@@ -1,7 +1,6 @@
 // Runs the expander on the cases of standard input and writes a line for each: the answer, the high mask handed back, and a
 // checksum of the whole output. oracle/cases_expander.py makes the cases and the lines that are expected.
 mod case;
-mod checksum;
 mod draws;
 
 use case::Case;
@@ -10,6 +9,8 @@ use expander::Carried;
 use expander::Expanded;
 use libc::STDIN_FILENO;
 use libc::STDOUT_FILENO;
+use machine::refusal::refusal_number;
+use seeded::sums;
 
 fn print_answer(answer: Answer) {
     match answer {
@@ -19,7 +20,7 @@ fn print_answer(answer: Answer) {
         }
         Answer::Refused(r) => {
             io::write_all(STDOUT_FILENO, b"refused ");
-            io::print_decimal(STDOUT_FILENO, machine::refusal::refusal_number(r) as u64);
+            io::print_decimal(STDOUT_FILENO, refusal_number(r) as u64);
         }
     }
 }
@@ -45,17 +46,18 @@ fn run_case(case: Case, nine: &mut [u32], stream: &mut [u32], out: &mut [u32]) {
         high_mask: case.high,
     };
     let r = expander::expand(nine, carried, stream, out);
-    print_line(r, checksum::checksum(out));
+    let sum = sums::add_words(sums::start(), out);
+    print_line(r, sums::checksum(sum));
 }
 
 // Reads one case and runs it, and answers whether there was one that fits.
 fn one_case(nine: &mut [u32], stream: &mut [u32], out: &mut [u32]) -> bool {
-    let mut record = [0u8; 28];
+    let mut record = [0u8; case::BYTES];
     let got = io::read_full(STDIN_FILENO, &mut record);
-    if got < 28 {
+    if got < case::BYTES {
         return false;
     }
-    let case = case::read(&record);
+    let case = case::read_case(&record);
     let nine_words = case.nine_words;
     let stream_words = case.stream_words;
     let room = case.room;
