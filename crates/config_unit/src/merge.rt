@@ -24,7 +24,7 @@ fn byte_unit(k: u8) -> u32
 }
 
 // A word with byte k merged. Internal: it has four bytes.
-pub fn with_merged(k: u8, mask: u8, value: u8, x: u32) -> u32
+pub(crate) fn with_merged(k: u8, mask: u8, value: u8, x: u32) -> u32
     requires { ⌜ k < 4 ⌝ }
     ensures { λ r. ⌜ r ≡ withMerged k mask value x ⌝ }
 {

@@ -11,7 +11,7 @@ use machine::units::GprNumber;
 use machine::units::gpr_place;
 
 // RDCFG.
-pub fn read_config(
+pub(crate) fn read_config(
     gprs: &mut [u32],
     config: &[u32],
     t: usize,
@@ -27,7 +27,7 @@ pub fn read_config(
 }
 
 // WRCFG.
-pub fn write_config(
+pub(crate) fn write_config(
     gprs: &[u32],
     config: &mut [u32],
     t: usize,
@@ -50,7 +50,7 @@ pub fn write_config(
 }
 
 // RMWCIB0 to RMWCIB3.
-pub fn rmw_byte(config: &mut [u32], bank: usize, byte: u8, mask: u8, value: u8, index: u16)
+pub(crate) fn rmw_byte(config: &mut [u32], bank: usize, byte: u8, mask: u8, value: u8, index: u16)
     requires { ⌜ (length (now config) ≡ 512) × (bank < 2) × (byte < 4) × (index < 256) ⌝ }
     ensures { λ _. ⌜ now (config .exit) ≡ afterRmwCib bank byte mask value index (now (config .entry)) ⌝ }
 {

@@ -15,7 +15,7 @@ pub fn bank_of(settings: &[u16], t: usize) -> usize
 }
 
 // SETC16. Internal: the store has its size, and the numbers are in range.
-pub fn set_setting(settings: &mut [u16], t: usize, entry: u8, value: u16)
+pub(crate) fn set_setting(settings: &mut [u16], t: usize, entry: u8, value: u16)
     requires { ⌜ (length (now settings) ≡ 192) × (t < 3) × (entry < 64) ⌝ }
     ensures { λ _. ⌜ now (settings .exit) ≡ afterSetC16 t entry value (now (settings .entry)) ⌝ }
 {

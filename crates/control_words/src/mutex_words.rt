@@ -17,7 +17,7 @@ use sync_words::mutex;
 use sync_words::mutex_past;
 
 // ATGETM: takes a free one, passes if already its own, else waits. Internal: the thread is in range.
-pub fn at_get_m(c: Control, t: usize, word: u32, stalls: bool, drops: bool) -> Stepped
+pub(crate) fn at_get_m(c: Control, t: usize, word: u32, stalls: bool, drops: bool) -> Stepped
     requires { ⌜ t < 3 ⌝ }
     ensures { λ r. ⌜ r ≡ controlOffer stalls drops c t (atGetMOf word) ⌝ }
 {
@@ -45,7 +45,7 @@ pub fn at_get_m(c: Control, t: usize, word: u32, stalls: bool, drops: bool) -> S
 }
 
 // ATRELM: frees its own, else no effect. Internal: the thread is in range.
-pub fn at_rel_m(c: Control, t: usize, word: u32, stalls: bool, drops: bool) -> Stepped
+pub(crate) fn at_rel_m(c: Control, t: usize, word: u32, stalls: bool, drops: bool) -> Stepped
     requires { ⌜ t < 3 ⌝ }
     ensures { λ r. ⌜ r ≡ controlOffer stalls drops c t (atRelMOf word) ⌝ }
 {

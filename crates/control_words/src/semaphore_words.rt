@@ -42,7 +42,14 @@ fn change_of(op: u32, word: u32) -> SemaphoreChange
 }
 
 // One of the three, or a word with another opcode, which is 2. Internal: the thread is in range.
-pub fn change_word(c: Control, t: usize, op: u32, word: u32, stalls: bool, drops: bool) -> Stepped
+pub(crate) fn change_word(
+    c: Control,
+    t: usize,
+    op: u32,
+    word: u32,
+    stalls: bool,
+    drops: bool,
+) -> Stepped
     requires { ⌜ t < 3 ⌝ }
     ensures { λ r. ⌜ r ≡ controlOffer stalls drops c t (changeRows op word) ⌝ }
 {

@@ -16,7 +16,7 @@ use sync_words::conditions;
 use sync_words::mask;
 
 // STALLWAIT. Internal: the thread is in range.
-pub fn stall_wait(c: Control, t: usize, word: u32, stalls: bool, drops: bool) -> Stepped
+pub(crate) fn stall_wait(c: Control, t: usize, word: u32, stalls: bool, drops: bool) -> Stepped
     requires { ⌜ t < 3 ⌝ }
     ensures { λ r. ⌜ r ≡ controlOffer stalls drops c t (stallWaitOf word) ⌝ }
 {
@@ -38,7 +38,7 @@ pub fn stall_wait(c: Control, t: usize, word: u32, stalls: bool, drops: bool) ->
 }
 
 // SEMWAIT. Internal: the thread is in range.
-pub fn sem_wait(c: Control, t: usize, word: u32, stalls: bool, drops: bool) -> Stepped
+pub(crate) fn sem_wait(c: Control, t: usize, word: u32, stalls: bool, drops: bool) -> Stepped
     requires { ⌜ t < 3 ⌝ }
     ensures { λ r. ⌜ r ≡ controlOffer stalls drops c t (semWaitOf word) ⌝ }
 {

@@ -58,7 +58,7 @@ fn find_flags(config: &[u32], cells: usize, marks: usize, bank: u32) -> Setting
 }
 
 // Internal: the row of a call in the 16-bit view.
-pub fn find16(config: &[u32], cells: usize, marks: usize, bank: u32, row: u32) -> Place16
+pub(crate) fn find16(config: &[u32], cells: usize, marks: usize, bank: u32, row: u32) -> Place16
     ensures { λ r. ⌜ toldRow r ≡ destCheck (length (now (config .entry))) cells marks bank row rows16 (accepted (row16At (now (config .entry)) bank row)) ⌝ }
 {
     match find_flags(config, cells, marks, bank) {
@@ -71,7 +71,7 @@ pub fn find16(config: &[u32], cells: usize, marks: usize, bank: u32, row: u32) -
 }
 
 // Internal: the rows of a call in the 32-bit view.
-pub fn find32(config: &[u32], cells: usize, marks: usize, bank: u32, row: u32) -> Place32
+pub(crate) fn find32(config: &[u32], cells: usize, marks: usize, bank: u32, row: u32) -> Place32
     ensures { λ r. ⌜ toldRows r ≡ destCheck (length (now (config .entry))) cells marks bank row rows32 (accepted (rows32At (now (config .entry)) bank row)) ⌝ }
 {
     match find_flags(config, cells, marks, bank) {

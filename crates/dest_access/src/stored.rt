@@ -10,7 +10,7 @@ use machine::sizes::ROW_CELLS;
 use row_cells::put_halves;
 
 // The cells of a storage row, zeros if it is invalid. Internal: Dest has its size, and the row is in range.
-pub fn read_stored(dest: &[u16], marks: &[bool], row: StorageRow) -> [u16; ROW_CELLS]
+pub(crate) fn read_stored(dest: &[u16], marks: &[bool], row: StorageRow) -> [u16; ROW_CELLS]
     requires { ⌜ (length (now dest) ≡ destCount) × (length (now marks) ≡ markCount) × (row .0 < storageRows) ⌝ }
     ensures { λ r. ⌜ r ≡ storedRow (destStore (now (dest .entry)) (now (marks .entry))) row ⌝ }
 {
@@ -25,7 +25,7 @@ pub fn read_stored(dest: &[u16], marks: &[bool], row: StorageRow) -> [u16; ROW_C
 }
 
 // Writes a storage row and marks it valid. Internal: Dest has its size, the row is in range and the cells are sixteen.
-pub fn write_stored(dest: &mut [u16], marks: &mut [bool], row: StorageRow, cells: &[u16])
+pub(crate) fn write_stored(dest: &mut [u16], marks: &mut [bool], row: StorageRow, cells: &[u16])
     requires { ⌜ (length (now dest) ≡ destCount) × (length (now marks) ≡ markCount) × (row .0 < storageRows) × (length (now cells) ≡ rowCells) ⌝ }
     ensures { λ _. ⌜ destStore (now (dest .exit)) (now (marks .exit)) ≡ withStoredRow (destStore (now (dest .entry)) (now (marks .entry))) row (now (cells .entry)) ⌝ }
 {

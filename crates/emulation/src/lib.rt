@@ -15,7 +15,7 @@ use turns::ending::Ending;
 use whole_runs::run_whole;
 
 // The most words of a thread.
-pub const THREAD_WORDS: usize = 1024;
+const THREAD_WORDS: usize = 1024;
 
 // The bytes of the longest sound input, and one more, by which a longer one is known.
 pub const INPUT_BYTES: usize = 12317;
@@ -24,10 +24,10 @@ pub const INPUT_BYTES: usize = 12317;
 pub const OUTPUT_BYTES: usize = 400;
 
 // What is told of a run.
-pub struct Outline {
-    pub answer: Ending,
-    pub turns: u32,
-    pub cursor: Cursor,
+struct Outline {
+    answer: Ending,
+    turns: u32,
+    cursor: Cursor,
 }
 
 // Runs a fresh machine.

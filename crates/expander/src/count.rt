@@ -75,7 +75,7 @@ fn count_word(nine: &[u32], word: u32, start: usize, limit: usize) -> usize
 }
 
 // Internal: the words of a whole stream.
-pub fn count_stream(nine: &[u32], input: &[u32], limit: usize) -> usize
+pub(crate) fn count_stream(nine: &[u32], input: &[u32], limit: usize) -> usize
     requires { ⌜ (length (now nine) ≡ 9) × (limit ≤ 65536) ⌝ }
     ensures { λ r. ⌜ r ≡ capped limit (streamCount (now (nine .entry)) (now (input .entry))) ⌝ }
 {

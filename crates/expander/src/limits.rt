@@ -24,7 +24,7 @@ fn any_template_1(input: &[u32]) -> bool
 }
 
 // Internal: whether a call is refused by 7.
-pub fn bad_rounds(nine: &[u32], input: &[u32]) -> bool
+pub(crate) fn bad_rounds(nine: &[u32], input: &[u32]) -> bool
     requires { ⌜ length (now nine) ≡ 9 ⌝ }
     ensures { λ r. ⌜ r ≡ badRounds (now (nine .entry)) (now (input .entry)) ⌝ }
 {

@@ -51,7 +51,7 @@ fn carried_after(carried: Carried, word: u32) -> Carried
 }
 
 // Internal: the whole stream, from the output's start; the answer is what is carried after it.
-pub fn put_stream(nine: &[u32], carried: Carried, input: &[u32], out: &mut [u32]) -> Carried
+pub(crate) fn put_stream(nine: &[u32], carried: Carried, input: &[u32], out: &mut [u32]) -> Carried
     requires { ⌜ (length (now nine) ≡ 9) × (length (streamOf (now nine) carried (now input) .words) ≤ length (now out)) ⌝ }
     ensures { λ r. ⌜ r ≡ streamOf (now (nine .entry)) carried (now (input .entry)) .carried ⌝ }
     ensures { λ _. ⌜ now (out .exit) ≡ over (now (out .entry)) 0 (streamOf (now (nine .entry)) carried (now (input .entry)) .words) ⌝ }

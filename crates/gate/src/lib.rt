@@ -1,5 +1,5 @@
 // What a thread's wait makes of its words now. Nothing here is lent a store.
-pub mod waits;
+mod waits;
 
 ghost use mathlib.Core.Path.{_≡_};
 ghost use mathlib.Core.Bool.{true, cond, not};

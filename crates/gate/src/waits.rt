@@ -15,7 +15,7 @@ fn fails(named: bool, owned: bool) -> bool
 }
 
 // Whether one of the stall conditions named holds now. Internal: the control part is in range.
-pub fn stall_holds(c: Control, k: u32) -> bool
+pub(crate) fn stall_holds(c: Control, k: u32) -> bool
     requires { ⌜ controlFormed c ≡ true ⌝ }
     ensures { λ r. ⌜ r ≡ stallHolds c k ⌝ }
 {

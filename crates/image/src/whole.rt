@@ -12,7 +12,7 @@ use layout::SRC_A_AT;
 use machine::control::Control;
 
 // How far an image is good: the offset of the first field missing, cut or out of range, or the image's size.
-pub fn scan(s: &[u8]) -> usize
+pub(crate) fn scan(s: &[u8]) -> usize
     ensures { λ r. ⌜ r ≡ image .good (now (s .entry)) ⌝ }
 {
     let c = image_control::control_good(s);
@@ -24,7 +24,7 @@ pub fn scan(s: &[u8]) -> usize
 }
 
 // Writes a machine's image from the start of `out`. Internal: there is room, and the parts have their sizes.
-pub fn write_machine(
+pub(crate) fn write_machine(
     out: &mut [u8],
     control: Control,
     settings: &[u16],
@@ -45,7 +45,7 @@ pub fn write_machine(
 }
 
 // Reads an image's machine, and hands its control part back. Internal: the bytes are there, and the parts have their sizes.
-pub fn read_machine(
+pub(crate) fn read_machine(
     s: &[u8],
     settings: &mut [u16],
     gprs: &mut [u32],

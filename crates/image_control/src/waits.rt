@@ -33,7 +33,7 @@ fn low_most(k: u32) -> u32
 }
 
 // How far a thread's wait is good. Internal: the place is a small number.
-pub fn thread_good(s: &[u8], at: usize) -> usize
+pub(crate) fn thread_good(s: &[u8], at: usize) -> usize
     requires { ⌜ at ≤ 100000 ⌝ }
     ensures { λ r. ⌜ (r ≡ threadFormat .good (drop at (now (s .entry)))) × (r ≤ 5) ⌝ }
 {
@@ -67,7 +67,7 @@ fn wait_from(kind: u32, block: u16, low: u16) -> Wait
 }
 
 // Reads a thread's wait. Internal: its bytes are there.
-pub fn read_thread(s: &[u8], at: usize) -> Thread
+pub(crate) fn read_thread(s: &[u8], at: usize) -> Thread
     requires { ⌜ at + 5 ≤ length (now s) ⌝ }
     ensures { λ r. ⌜ r ≡ threadFormat .get (drop at (now (s .entry))) ⌝ }
 {
@@ -89,7 +89,7 @@ fn write_numbers(out: &mut [u8], at: usize, kind: u32, block: u16, low: u32)
 }
 
 // Writes a thread's wait. Internal: there is room.
-pub fn write_thread(out: &mut [u8], at: usize, t: Thread)
+pub(crate) fn write_thread(out: &mut [u8], at: usize, t: Thread)
     requires { ⌜ at + 5 ≤ length (now out) ⌝ }
     ensures { λ _. ⌜ Wrote (now (out .entry)) at (threadFormat .put t) (now (out .exit)) (at + 5) ⌝ }
 {

@@ -42,7 +42,7 @@ fn unpack(b: u8, marks: &mut [bool], at: usize)
 }
 
 // Writes the marks from `at`. Internal: there is room, and they are 1,024.
-pub fn write_marks(out: &mut [u8], at: usize, marks: &[bool])
+pub(crate) fn write_marks(out: &mut [u8], at: usize, marks: &[bool])
     requires { ⌜ (at + 128 ≤ length (now out)) × (length (now marks) ≡ 1024) ⌝ }
     ensures { λ _. ⌜ Wrote (now (out .entry)) at (marksFormat 128 .put (now (marks .entry))) (now (out .exit)) (at + 128) ⌝ }
 {
@@ -56,7 +56,7 @@ pub fn write_marks(out: &mut [u8], at: usize, marks: &[bool])
 }
 
 // Reads the marks from `at`. Internal: their bytes are there, and they are 1,024.
-pub fn read_marks(s: &[u8], at: usize, marks: &mut [bool])
+pub(crate) fn read_marks(s: &[u8], at: usize, marks: &mut [bool])
     requires { ⌜ (at + 128 ≤ length (now s)) × (length (now marks) ≡ 1024) ⌝ }
     ensures { λ _. ⌜ now (marks .exit) ≡ marksFormat 128 .get (drop at (now (s .entry))) ⌝ }
 {

@@ -89,7 +89,14 @@ fn clear_rows(marks: &mut [bool], flags: Flags, wide: bool, first: u16, count: u
 }
 
 // ZEROACC. Internal: the stores have their sizes, and the numbers are in range.
-pub fn zero_marks(marks: &mut [bool], config: &[u32], bank: usize, mode: u8, wide: bool, place: u16)
+pub(crate) fn zero_marks(
+    marks: &mut [bool],
+    config: &[u32],
+    bank: usize,
+    mode: u8,
+    wide: bool,
+    place: u16,
+)
     requires { ⌜ (length (now marks) ≡ 1024) × (length (now config) ≡ 512) × (bank < 2) × PlaceInView mode wide place ⌝ }
     ensures whole { λ _. ⌜ now (marks .exit) ≡ afterZeroAcc bank mode wide place (now (config .entry)) (now (marks .entry)) ⌝ }
     ensures rows { λ _. ⌜ RowsCleared wide (flagsIn bank (now (config .entry))) (firstRow mode wide place) (rowCount mode wide) (now (marks .entry)) (now (marks .exit)) ⌝ }

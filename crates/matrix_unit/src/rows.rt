@@ -8,7 +8,7 @@ use effects::places::row_place;
 use machine::sizes::ROW_CELLS;
 
 // MOVB2A. Internal: the stores have their sizes, and the numbers are in range.
-pub fn copy_rows(
+pub(crate) fn copy_rows(
     src_a: &mut [u32],
     src_b: &[u32],
     bank_a: usize,

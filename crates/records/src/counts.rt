@@ -69,7 +69,7 @@ fn from_first(s: &[u8], most: u32, n0: usize, at: usize) -> CountsRead
 }
 
 // Records 32, 33 and 34, each of at most `most` bytes. Internal: that is at most 65,536 words.
-pub fn count_words(s: &[u8], most: u32) -> CountsRead
+pub(crate) fn count_words(s: &[u8], most: u32) -> CountsRead
     requires { ⌜ most ≤ 262144 ⌝ }
     ensures { λ r. ⌜ r ≡ countsOf most (now (s .entry)) ⌝ }
 {
@@ -81,7 +81,7 @@ pub fn count_words(s: &[u8], most: u32) -> CountsRead
 }
 
 // Where the records of words end. Internal: that is within reach of a sound input.
-pub fn words_end(c: Counts) -> usize
+pub(crate) fn words_end(c: Counts) -> usize
     requires { ⌜ wordsEnd c ≤ 1000000 ⌝ }
     ensures { λ r. ⌜ r ≡ wordsEnd c ⌝ }
 {

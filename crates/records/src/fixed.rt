@@ -18,7 +18,7 @@ pub enum CursorRecord {
 }
 
 // The record of the budget, at most `most`, at a place. Internal, as body_at.
-pub fn budget_record(s: &[u8], at: usize, most: u32) -> BudgetRecord
+pub(crate) fn budget_record(s: &[u8], at: usize, most: u32) -> BudgetRecord
     requires { ⌜ at ≤ 1000000 ⌝ }
     ensures { λ r. ⌜ r ≡ budgetRecordOf most (drop at (now (s .entry))) ⌝ }
 {
@@ -33,7 +33,7 @@ pub fn budget_record(s: &[u8], at: usize, most: u32) -> BudgetRecord
 }
 
 // The record of the cursor at a place: any numbers. Internal, as body_at.
-pub fn cursor_record(s: &[u8], at: usize) -> CursorRecord
+pub(crate) fn cursor_record(s: &[u8], at: usize) -> CursorRecord
     requires { ⌜ at ≤ 1000000 ⌝ }
     ensures { λ r. ⌜ r ≡ cursorRecordOf (drop at (now (s .entry))) ⌝ }
 {

@@ -164,7 +164,7 @@ fn bad_offset(r: Refusal) -> usize
 }
 
 // What is printed for an image and the records after it. Internal: the image is no longer than an image, and there is room.
-pub fn replay_parts(came: &[u8], tail: &[u8], out: &mut [u8]) -> usize
+pub(crate) fn replay_parts(came: &[u8], tail: &[u8], out: &mut [u8]) -> usize
     requires { ⌜ (49000 ≤ length (now out)) × (length (now came) ≤ 48473) ⌝ }
     ensures { λ r. ⌜ Wrote (now (out .entry)) 0 (partsOf (now (came .entry)) (now (tail .entry))) (now (out .exit)) r ⌝ }
 {

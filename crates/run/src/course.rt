@@ -28,7 +28,7 @@ fn ended(answer: Ending, turns: u32, control: Control, cursor: Cursor) -> Ran
 }
 
 // Takes turns until the run ends. Internal: the call was not refused.
-pub fn take_turns(
+pub(crate) fn take_turns(
     control: Control,
     settings: &mut [u16],
     gprs: &mut [u32],

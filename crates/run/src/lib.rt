@@ -1,6 +1,6 @@
 // Three streams of words on one machine: a cursor, a budget of turns, and how it ends (document 01, "A run").
-pub mod course;
-pub mod turn;
+mod course;
+mod turn;
 
 ghost use mathlib.Core.Path.{_≡_};
 ghost use Rattle.machine.specs.Machine.{machine, stores};

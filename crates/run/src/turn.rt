@@ -13,14 +13,14 @@ use turns::streams::Offered;
 use turns::streams::next_word;
 
 // What came of a turn, and the control part and cursor after it.
-pub struct Turned {
-    pub outcome: Outcome,
-    pub control: Control,
-    pub cursor: Cursor,
+pub(crate) struct Turned {
+    pub(crate) outcome: Outcome,
+    pub(crate) control: Control,
+    pub(crate) cursor: Cursor,
 }
 
 // Offers the next thread's word, or does nothing if its stream is used up. Internal: the call was not refused.
-pub fn turn(
+pub(crate) fn turn(
     control: Control,
     settings: &mut [u16],
     gprs: &mut [u32],

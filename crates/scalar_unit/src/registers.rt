@@ -22,7 +22,7 @@ fn with_half(half: HalfRegister, value: u16, x: u32) -> u32
 }
 
 // SETDMAREG. Internal, as all below: the store has its size, and the numbers are in range.
-pub fn write_half(gprs: &mut [u32], t: usize, half: HalfRegister, value: u16)
+pub(crate) fn write_half(gprs: &mut [u32], t: usize, half: HalfRegister, value: u16)
     requires { ⌜ (length (now gprs) ≡ 192) × (t < 3) × (half .0 < 128) ⌝ }
     ensures { λ _. ⌜ now (gprs .exit) ≡ afterSetDmaReg t half value (now (gprs .entry)) ⌝ }
 {
@@ -42,7 +42,7 @@ fn operand_of(gprs: &[u32], t: usize, b: Operand) -> u32
 }
 
 // ADDDMAREG.
-pub fn write_sum(gprs: &mut [u32], t: usize, result: GprNumber, a: GprNumber, b: Operand)
+pub(crate) fn write_sum(gprs: &mut [u32], t: usize, result: GprNumber, a: GprNumber, b: Operand)
     requires { ⌜ (length (now gprs) ≡ 192) × (t < 3) × (result .0 < 64) × (a .0 < 64) × OperandInRange b ⌝ }
     ensures { λ _. ⌜ now (gprs .exit) ≡ afterAddDmaReg t result a b (now (gprs .entry)) ⌝ }
 {
@@ -60,7 +60,7 @@ fn low_product(x: u32, y: u32) -> u32
 }
 
 // MULDMAREG.
-pub fn write_product(gprs: &mut [u32], t: usize, result: GprNumber, a: GprNumber, b: Operand)
+pub(crate) fn write_product(gprs: &mut [u32], t: usize, result: GprNumber, a: GprNumber, b: Operand)
     requires { ⌜ (length (now gprs) ≡ 192) × (t < 3) × (result .0 < 64) × (a .0 < 64) × OperandInRange b ⌝ }
     ensures { λ _. ⌜ now (gprs .exit) ≡ afterMulDmaReg t result a b (now (gprs .entry)) ⌝ }
 {

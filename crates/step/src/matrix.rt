@@ -26,7 +26,7 @@ use offers::verdict;
 // Offered by thread t, where the tests say whether its wait stalls the unit's words and whether it is lifted. GPRs and Dest are
 // not lent, since no word of the unit touches them: the promise holds with any lists of them. Internal: the machine is well formed and
 // the thread in range.
-pub fn matrix_word(
+pub(crate) fn matrix_word(
     control: Control,
     settings: &[u16],
     config: &[u32],

@@ -34,7 +34,7 @@ pub fn next_word(s0: &[u32], s1: &[u32], s2: &[u32], c: Cursor) -> Offered
 }
 
 // Whether all streams are used up.
-pub fn used_up(s0: &[u32], s1: &[u32], s2: &[u32], c: Cursor) -> bool
+pub(crate) fn used_up(s0: &[u32], s1: &[u32], s2: &[u32], c: Cursor) -> bool
     ensures { λ r. ⌜ r ≡ usedUp (streams (now (s0 .entry)) (now (s1 .entry)) (now (s2 .entry))) c ⌝ }
 {
     let u0 = s0.len() <= c.at0;
