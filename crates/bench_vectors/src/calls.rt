@@ -4,8 +4,8 @@ use crate::lengths::lent;
 use crate::print;
 use answers::Access;
 use machine::control::Control;
+use machine::sizes::CELL_MOST;
 use seeded::controls::draw_control;
-use seeded::fills::fill_cells;
 use seeded::fills::fill_halves;
 use seeded::fills::fill_marks;
 use seeded::fills::fill_words;
@@ -29,11 +29,11 @@ pub fn refill(
     src_a: &mut [u32],
     src_b: &mut [u32],
 ) {
-    let one = fill_words(case.seed, gprs);
+    let one = fill_words(case.seed, u32::MAX, gprs);
     let two = fill_halves(one, dest);
     let three = fill_marks(two, marks);
-    let four = fill_cells(three, src_a);
-    fill_cells(four, src_b);
+    let four = fill_words(three, CELL_MOST, src_a);
+    fill_words(four, CELL_MOST, src_b);
     print_stores(gprs, dest, marks, src_a, src_b);
 }
 
@@ -98,7 +98,7 @@ fn ask_read32(case: Case, config: &[u32], dest: &[u16], marks: &[bool], out: &mu
 
 pub fn read_row32(case: Case, config: &[u32], dest: &[u16], marks: &[bool]) {
     let mut out = [0u32; 17];
-    fill_words(case.seed, &mut out);
+    fill_words(case.seed, u32::MAX, &mut out);
     let answer = ask_read32(case, config, dest, marks, &mut out);
     let sum = sums::add_words(sums::start(), &out);
     print::print_access(answer, sums::checksum(sum));
@@ -161,7 +161,7 @@ fn ask_write32(
 
 pub fn write_row32(case: Case, config: &[u32], dest: &mut [u16], marks: &mut [bool]) {
     let mut cells = [0u32; 17];
-    fill_words(case.seed, &mut cells);
+    fill_words(case.seed, u32::MAX, &mut cells);
     let answer = ask_write32(case, config, dest, marks, &cells);
     print_dest(answer, dest, marks);
 }
@@ -200,7 +200,7 @@ fn ask_source(
 // The call on cells of which one may be out of range.
 fn ask_source_row(case: Case, src_a: &mut [u32], src_b: &mut [u32]) -> Access {
     let mut cells = [0u32; 17];
-    fill_cells(case.seed, &mut cells);
+    fill_words(case.seed, CELL_MOST, &mut cells);
     put_at(&mut cells, case.right % 256, case.third);
     let drawn = draw_control(case.left);
     let control = at_limit(drawn.control, case.limit);

@@ -22,13 +22,9 @@ drawOf x = nextOf x / 65536
 unfoldable pub smallOf : ℕ → ℕ → ℕ
 smallOf most x = drawOf x % (most + 1)
 
--- a word of 32 bits: two draws, the first the high half
-unfoldable pub wordOf : ℕ → ℕ
-wordOf x = drawOf x * 65536 + drawOf (nextOf x)
-
--- a source cell: the low 19 bits of a word
-unfoldable pub cellOf : ℕ → ℕ
-cellOf x = wordOf x % 524288
+-- the same of two draws, the first the high half of a word
+unfoldable pub wordOf : ℕ → ℕ → ℕ
+wordOf most x = (drawOf x * 65536 + drawOf (nextOf x)) % (most + 1)
 
 -- a valid mark: set where the number drawn is odd
 unfoldable pub markOf : ℕ → Bool

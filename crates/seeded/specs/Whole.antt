@@ -2,8 +2,9 @@
 use Prim.Native.Nat.{ℕ}
 use mathlib.Core.List.{List}
 use lib.ListN.{length}
+use Rattle.machine.specs.Sizes.{cellMost, wordMost}
 use Rattle.machine.specs.Machine.{Machine, Stores, machine, stores}
-use Rattle.seeded.specs.Draws.{nextOf, twoOn, drawOf, wordOf, cellOf, markOf, values, stateAfter}
+use Rattle.seeded.specs.Draws.{nextOf, twoOn, drawOf, wordOf, markOf, values, stateAfter}
 use Rattle.seeded.specs.Controls.{controlOf, afterControl}
 
 -- the stores from state x on, each as long as that of k
@@ -14,9 +15,9 @@ storesOf x k =
     let x3 = stateAfter nextOf (length (k .dest)) x2 in
     let x4 = stateAfter nextOf (length (k .marks)) x3 in
     let x5 = stateAfter twoOn (length (k .srcA)) x4 in
-    stores (values wordOf twoOn (length (k .gprs)) x) (values wordOf twoOn (length (k .config)) x1)
+    stores (values (wordOf wordMost) twoOn (length (k .gprs)) x) (values (wordOf wordMost) twoOn (length (k .config)) x1)
     (values drawOf nextOf (length (k .dest)) x2) (values markOf nextOf (length (k .marks)) x3)
-    (values cellOf twoOn (length (k .srcA)) x4) (values cellOf twoOn (length (k .srcB)) x5)
+    (values (wordOf cellMost) twoOn (length (k .srcA)) x4) (values (wordOf cellMost) twoOn (length (k .srcB)) x5)
 
 -- the machine of a seed, its settings as long as s and its stores as those of k
 unfoldable pub machineOf : ℕ → List ℕ → Stores → Machine

@@ -1,7 +1,6 @@
 // Numbers drawn from a small generator. Its state is a number of 32 bits; each draw gives one of 16.
 ghost use mathlib.Core.Path.{_≡_};
-ghost use Rattle.seeded.specs.Draws.{nextOf, drawOf, smallOf, wordOf, cellOf, markOf, stateAfter};
-use machine::sizes::CELL_MOST;
+ghost use Rattle.seeded.specs.Draws.{nextOf, drawOf, smallOf, wordOf, markOf, stateAfter};
 
 // The state after a draw.
 pub fn next_state(x: u32) -> u32
@@ -39,20 +38,14 @@ pub fn small(x: u32, most: u8) -> u8
     (draw(x) % limit) as u8
 }
 
-// Two draws as a word, the first its high half.
-pub fn word(x: u32) -> u32
-    ensures { λ r. ⌜ r ≡ wordOf x ⌝ }
+// Two draws as a number from 0 to `most`: the first is the high half of a word.
+pub fn word(x: u32, most: u32) -> u32
+    ensures { λ r. ⌜ r ≡ wordOf most x ⌝ }
 {
-    let high = draw(x) as u32;
-    let low = draw(next_state(x)) as u32;
-    high * 65536 + low
-}
-
-// Two draws as a source cell: the word's low 19 bits.
-pub fn cell(x: u32) -> u32
-    ensures { λ r. ⌜ r ≡ cellOf x ⌝ }
-{
-    word(x) % (CELL_MOST + 1)
+    let high = draw(x) as u64;
+    let low = draw(next_state(x)) as u64;
+    let limit = most as u64 + 1;
+    ((high * 65536 + low) % limit) as u32
 }
 
 // One draw as a mark: set where it is odd.

@@ -1,6 +1,5 @@
 // Lent stores filled from the draws, in order. Each answers the state after its last draw.
-ghost use Rattle.seeded.specs.Draws.{nextOf, twoOn, drawOf, smallOf, wordOf, cellOf, markOf, Filled};
-use crate::draws::cell;
+ghost use Rattle.seeded.specs.Draws.{nextOf, twoOn, drawOf, smallOf, wordOf, markOf, Filled};
 use crate::draws::draw;
 use crate::draws::mark;
 use crate::draws::next_state;
@@ -35,28 +34,14 @@ pub fn fill_halves(x: u32, dst: &mut [u16]) -> u32
     state
 }
 
-// Words of 32 bits, two draws each.
-pub fn fill_words(x: u32, dst: &mut [u32]) -> u32
-    ensures { λ r. ⌜ Filled wordOf twoOn x (now (dst .entry)) (now (dst .exit)) r ⌝ }
+// Numbers of 32 bits from 0 to `most`, two draws each.
+pub fn fill_words(x: u32, most: u32, dst: &mut [u32]) -> u32
+    ensures { λ r. ⌜ Filled (wordOf most) twoOn x (now (dst .entry)) (now (dst .exit)) r ⌝ }
 {
     let mut state = x;
     let mut i = 0;
     while i < dst.len() {
-        dst[i] = word(state);
-        state = next_state(next_state(state));
-        i += 1;
-    }
-    state
-}
-
-// Source cells of 19 bits, two draws each.
-pub fn fill_cells(x: u32, dst: &mut [u32]) -> u32
-    ensures { λ r. ⌜ Filled cellOf twoOn x (now (dst .entry)) (now (dst .exit)) r ⌝ }
-{
-    let mut state = x;
-    let mut i = 0;
-    while i < dst.len() {
-        dst[i] = cell(state);
+        dst[i] = word(state, most);
         state = next_state(next_state(state));
         i += 1;
     }

@@ -3,11 +3,11 @@ ghost use mathlib.Core.Path.{_≡_};
 ghost use Rattle.machine.specs.Machine.{machine, stores};
 ghost use Rattle.seeded.specs.Whole.{machineOf};
 use crate::controls::draw_control;
-use crate::fills::fill_cells;
 use crate::fills::fill_halves;
 use crate::fills::fill_marks;
 use crate::fills::fill_words;
 use machine::control::Control;
+use machine::sizes::CELL_MOST;
 
 // The machine of a seed: its control part is the answer, and each lent part is filled whole.
 pub fn fill_machine(
@@ -24,11 +24,11 @@ pub fn fill_machine(
 {
     let drawn = draw_control(seed);
     let x1 = fill_halves(drawn.state, settings);
-    let x2 = fill_words(x1, gprs);
-    let x3 = fill_words(x2, config);
+    let x2 = fill_words(x1, u32::MAX, gprs);
+    let x3 = fill_words(x2, u32::MAX, config);
     let x4 = fill_halves(x3, dest);
     let x5 = fill_marks(x4, marks);
-    let x6 = fill_cells(x5, src_a);
-    fill_cells(x6, src_b);
+    let x6 = fill_words(x5, CELL_MOST, src_a);
+    fill_words(x6, CELL_MOST, src_b);
     drawn.control
 }

@@ -9,19 +9,19 @@ use Rattle.seeded.proofs.fills.fill_words.Statement.{statement}
 use Rattle.seeded.proofs.fills.fill_words.Tie as tie
 
 abbrev Inv-loop : tie.InvT-loop
-Inv-loop x dst₀ state₀ i₀ dst state i = Filling wordOf twoOn x (length dst₀) dst state i
+Inv-loop x most dst₀ state₀ i₀ dst state i = Filling (wordOf most) twoOn x (length dst₀) dst state i
 
 abbrev μ-loop : tie.MeasureT-loop
-μ-loop x dst₀ state₀ i₀ dst state i = length dst₀ - i
+μ-loop x most dst₀ state₀ i₀ dst state i = length dst₀ - i
 
 loop-holds : tie.Need-loop-holds Inv-loop μ-loop
-loop-holds c = let a = c .before .args in filling-start wordOf twoOn (a .x) (length (a .dst .now)) (a .dst .now) refl
+loop-holds c = let a = c .before .args in filling-start (wordOf (a .most)) twoOn (a .x) (length (a .dst .now)) (a .dst .now) refl
 
 loop-again : tie.Need-loop-again Inv-loop μ-loop
 loop-again c =
     let a = c .before .before .before .before .before .before .args in
     let l = c .before .before .before .before .loop in
-    filling-next wordOf twoOn (a .x) (length (a .dst .now)) (l .dst) (l .state) (l .i) (c .before .before .word .result) (c .next-state2 .result) (omega arith)
+    filling-next (wordOf (a .most)) twoOn (a .x) (length (a .dst .now)) (l .dst) (l .state) (l .i) (c .before .before .word .result) (c .next-state2 .result) (omega arith)
     (c .before .before .word .ensures) (c .next-state2 .ensures ∙ ap nextOf (c .before .next-state .ensures)) (l .inv)
 
 same-length : tie.Need-same-length Inv-loop μ-loop
@@ -31,7 +31,7 @@ returns : tie.Need-returns Inv-loop μ-loop
 returns c =
     let a = c .before .before .before .args in
     let l = c .before .loop in
-    filled wordOf twoOn (a .x) (a .dst .now) (l .dst) (l .state) (l .i) (omega arith) (l .inv)
+    filled (wordOf (a .most)) twoOn (a .x) (a .dst .now) (l .dst) (l .state) (l .i) (omega arith) (l .inv)
 
 pub fill-words-spec : {M : Type 1} → statement M
 fill-words-spec =
