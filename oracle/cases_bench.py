@@ -2,21 +2,24 @@
 
     python3 oracle/cases_bench.py    prints how many calls have each answer
 
-A case is eight words of 4 bytes: call; lengths of the lent parts, two bits each; three numbers; seed; two words more. Flag
-words of Config's banks are the last two of a Dest call; of a source call they are the seed of the control part, and where a
-number is out of range, and bits from 8 on of the lengths say which number of the control part is at a limit. The stores are kept
-from case to case and filled anew from a seed now and then.
+A case is eleven words of 4 bytes: call; lengths of the lent parts, two bits each; three numbers; seed; two words more; kind, place
+and value of a number that is set. The two words are flag words of Config's banks; of a source call they are the seed of the control
+part, in which the number is set, and where a number is out of range. The stores are kept from case to case and filled anew from a
+seed now and then.
 """
 
 import struct
 import zlib
-from collections import Counter
+from collections import Counter, namedtuple
 
 import bench
+from lent_machines import AT_END, PAST, UNSET, WAIT, set_control
 from machine import Machine
-from seeded import AT_END, PAST, Draws, control_from, flat, put_at_limit, rows
+from seeded import Draws, control_from, flat, rows
 
 FOLDER = 'crates/bench_vectors'
+
+Case = namedtuple('Case', 'call lengths first second third seed left right number', defaults=(0, 0, 0, 0, UNSET))
 
 FILL, READ_GPR, WRITE_GPR, READ_16, WRITE_16, READ_32, WRITE_32, WRITE_SOURCE, SHOW = range(9)
 RIGHT, SHORTER, LONGER, NONE = range(4)  # how long a lent part is
@@ -129,17 +132,17 @@ class Bench:
 
     # The calls.
 
-    def fill(self, lengths, first, second, third, seed, left, right):
+    def fill(self, lengths, first, second, third, seed, left, right, number):
         self.past = refilled(self.machine, seed)
         whole = self.gpr_bytes() + self.dest_bytes() + self.source_bytes()
         return f'filled {zlib.adler32(whole)}\n'
 
-    def read_gpr(self, lengths, thread, register, third, seed, left, right):
+    def read_gpr(self, lengths, thread, register, third, seed, left, right, number):
         with Lent(self.machine, ('gprs',), lengths) as machine:
             answer = bench.read_gpr(machine, thread, register)
         return f'{"value" if answer[0] == "read" else "refused"} {answer[1]}\n'
 
-    def write_gpr(self, lengths, thread, register, value, seed, left, right):
+    def write_gpr(self, lengths, thread, register, value, seed, left, right, number):
         with Lent(self.machine, ('gprs',), lengths) as machine:
             answer = bench.write_gpr(machine, thread, register, value)
         return line(answer, self.gpr_bytes())
@@ -166,24 +169,24 @@ class Bench:
             answer = write(machine, bank, row, cells)
         return line(answer, self.dest_bytes())
 
-    def read_16(self, lengths, bank, row, third, seed, left, right):
+    def read_16(self, lengths, bank, row, third, seed, left, right, number):
         return self.read_row(bench.read_dest_16, Draws(seed).draw, halves_bytes, lengths, bank, row, left, right)
 
-    def write_16(self, lengths, bank, row, third, seed, left, right):
+    def write_16(self, lengths, bank, row, third, seed, left, right, number):
         return self.write_row(bench.write_dest_16, Draws(seed).draw, lengths, bank, row, left, right)
 
-    def read_32(self, lengths, bank, row, third, seed, left, right):
+    def read_32(self, lengths, bank, row, third, seed, left, right, number):
         return self.read_row(bench.read_dest_32, Draws(seed).word, words_bytes, lengths, bank, row, left, right)
 
-    def write_32(self, lengths, bank, row, third, seed, left, right):
+    def write_32(self, lengths, bank, row, third, seed, left, right, number):
         return self.write_row(bench.write_dest_32, Draws(seed).word, lengths, bank, row, left, right)
 
-    def write_source(self, lengths, file, row, over, seed, control, bad):
+    def write_source(self, lengths, file, row, over, seed, control, bad, number):
         cells = seventeen(Draws(seed).cell)
         if bad % 256 <= ROW:
             cells[bad % 256] = over
         control_from(Draws(control), self.machine)
-        put_at_limit(self.machine, lengths[4])
+        set_control(self.machine, *number)
         spoiled = []
         for store, place in ((self.machine.src_a, bad // 256 % 4096), (self.machine.src_b, bad // 1048576)):
             if place < 2048:
@@ -197,7 +200,7 @@ class Bench:
             cells_of_row[column] = cell
         return text
 
-    def show(self, lengths, file, bank, row, seed, left, right):
+    def show(self, lengths, file, bank, row, seed, left, right, number):
         parts = [cut(part, length) for part, length in zip((self.machine.src_a, self.machine.src_b), lengths)]
         cells = bench.show_row(*parts, file, bank, row)
         return f'shown {len(cells)} {zlib.adler32(words_bytes(cells))}\n'
@@ -206,7 +209,7 @@ class Bench:
         call, lengths, *numbers = case
         calls = (self.fill, self.read_gpr, self.write_gpr, self.read_16, self.write_16, self.read_32, self.write_32,
                  self.write_source, self.show)
-        return calls[call]([*(lengths >> place & 3 for place in (0, 2, 4, 6)), lengths >> 8], *numbers)
+        return calls[call]([lengths >> place & 3 for place in (0, 2, 4, 6)], *numbers)
 
 
 # Cases.
@@ -227,7 +230,7 @@ def near(draws, limit, times):
 
 def gpr_case(draws):
     call = chosen(draws, (READ_GPR, WRITE_GPR))
-    return (call, any_lengths(draws, 2) & 3, near(draws, 3, 6), near(draws, 64, 6), draws.word(), 0, 0, 0)
+    return Case(call, any_lengths(draws, 2) & 3, near(draws, 3, 6), near(draws, 64, 6), draws.word())
 
 
 def flag_words(draws):
@@ -248,27 +251,31 @@ class DestCases:
             reads = {WRITE_16: READ_16, WRITE_32: READ_32}
             self.last = None
             call = chosen(draws, (reads[call], reads[call], READ_16, READ_32))
-            return (call, 0, bank, row, 0, draws.word(), *flags)
+            return Case(call, 0, bank, row, 0, draws.word(), *flags)
         call = chosen(draws, (READ_16, WRITE_16, READ_32, WRITE_32, WRITE_32))
         limit = 1024 if call in (READ_16, WRITE_16) else 512
         bank, row, flags = near(draws, 2, 8), near(draws, limit, 6), flag_words(draws)
         if call in (WRITE_16, WRITE_32):
             self.last = (call, bank, row, flags)
         row_length = seldom(draws, 6, RIGHT, (SHORTER, LONGER, NONE))
-        return (call, any_lengths(draws, 3) | row_length << 6, bank, row, 0, draws.word(), *flags)
+        return Case(call, any_lengths(draws, 3) | row_length << 6, bank, row, 0, draws.word(), *flags)
+
+
+def of_control(numbers):
+    return [number for number in numbers if number[0] <= WAIT]
 
 
 def source_case(draws):
-    limit = seldom(draws, 8, chosen(draws, (0, *AT_END)), tuple(PAST))
+    number = seldom(draws, 8, chosen(draws, [UNSET, *of_control(AT_END)]), of_control(PAST))
     bad = seldom(draws, 8, NOWHERE_CELL, range(16)) | seldom(draws, 12, NOWHERE, (0, 1023, 1024, 2047)) << 8
     bad |= seldom(draws, 12, NOWHERE, (0, 1023, 1024, 2047, draws.draw() % 2048)) << 20
     over = chosen(draws, (CELL_LIMIT, CELL_LIMIT - 1, CELL_LIMIT + 1, 0xFFFFFFFF, draws.word() | 1 << 31))
-    return (WRITE_SOURCE, any_lengths(draws, 3) | limit << 8, near(draws, 2, 8), near(draws, 64, 8), over, draws.word(),
-            draws.word(), bad)
+    return Case(WRITE_SOURCE, any_lengths(draws, 3), near(draws, 2, 8), near(draws, 64, 8), over, draws.word(), draws.word(), bad,
+                number)
 
 
 def show_case(draws):
-    return (SHOW, any_lengths(draws, 2), near(draws, 2, 8), near(draws, 2, 8), near(draws, 64, 8), 0, 0, 0)
+    return Case(SHOW, any_lengths(draws, 2), near(draws, 2, 8), near(draws, 2, 8), near(draws, 64, 8))
 
 
 ROUNDS = 60
@@ -279,7 +286,7 @@ def all_cases():
     draws = Draws(30000)
     dest = DestCases(draws)
     for _ in range(ROUNDS):
-        yield (FILL, 0, 0, 0, 0, draws.word(), 0, 0)
+        yield Case(FILL, 0, 0, 0, 0, draws.word())
         dest.last = None
         for _ in range(CALLS):
             kind = draws.draw() % 16
@@ -296,7 +303,7 @@ def all_cases():
 def files():
     cases, program = list(all_cases()), Bench()
     return {
-        f'{FOLDER}/stdin': b''.join(struct.pack('<8I', *case) for case in cases),
+        f'{FOLDER}/stdin': b''.join(struct.pack('<11I', *case[:-1], *case.number) for case in cases),
         f'{FOLDER}/stdout': ''.join(map(program.line_of, cases)).encode(),
     }
 

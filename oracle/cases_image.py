@@ -8,85 +8,20 @@ stands at the place of the output for this load, and the first so many bytes of 
 
 import struct
 import zlib
-from collections import Counter, namedtuple
+from collections import Counter
 from copy import copy
-from functools import lru_cache
 
 import seeded
 from image import SIZE, image_of, load, save
-from machine import LENT, fresh
+from lent_machines import CELL_A, CELL_B, MUTEX, OWNER, POINTER, RIGHT_LENGTHS, SEMAPHORE, STALL, UNSET, WAIT, WRONG_LENGTHS, \
+    Made, digest, lent, machine_of, packed, semaphore, stall, wait, whole
+from machine import fresh
 
 FOLDER = 'crates/image_vectors'
 
 OUT_MOST = 48640
 UNWRITTEN = 0xA5
 NOWHERE = 0xFFFFFFFF
-
-# How a machine is made: its seed, a number set in it (kind, 0 none, place and value), and the part lent with another length.
-Made = namedtuple('Made', 'seed kind place value part length', defaults=(0, 0, 0, 0, 0))
-
-MUTEX, SEMAPHORE, OWNER, POINTER, STALL, WAIT, CELL_A, CELL_B = range(1, 9)
-PARTS = tuple(LENT)
-SIZES = {'settings': 192, 'gprs': 192, 'config': 512, 'dest': 16384, 'marks': 1024, 'src_a': 2048, 'src_b': 2048}
-
-
-# Machines.
-
-@lru_cache(maxsize=None)
-def whole(seed):
-    return seeded.machine(seed)
-
-
-def set_cell(banks, place, value):
-    banks[place // 1024][place // 16 % 64][place % 16] = value
-
-
-def machine_of(made):
-    """The machine, each part at its size."""
-    machine, place, value = whole(made.seed).copy(), made.place, made.value
-    if made.kind == MUTEX:
-        machine.mutexes[place] = value
-    elif made.kind == SEMAPHORE:
-        machine.semaphores[place] = [value & 255, value >> 8]
-    elif made.kind == OWNER:
-        machine.owners[place] = value
-    elif made.kind == POINTER:
-        machine.pointers[place] = value
-    elif made.kind == STALL:
-        machine.waits[place] = ('stall', value & 0xFFFF, value >> 16)
-    elif made.kind == WAIT:
-        machine.waits[place] = ('semaphore', value & 0xFFFF, value >> 16 & 255, value >> 24)
-    elif made.kind == CELL_A:
-        set_cell(machine.src_a, place, value)
-    elif made.kind == CELL_B:
-        set_cell(machine.src_b, place, value)
-    return machine
-
-
-def count(part):
-    return sum(map(count, part)) if part and isinstance(part[0], list) else len(part)
-
-
-def resized(part, length):
-    """The first so many numbers of nested lists, with zeros after the last where there are not enough."""
-    if not isinstance(part[0], list):
-        return part[:length] + [0] * (length - len(part))
-    kept = []
-    for place, inner in enumerate(part):
-        size = length if place == len(part) - 1 else min(length, count(inner))
-        if size:
-            kept.append(resized(inner, size))
-        length -= size
-    return kept
-
-
-def lent(machine, made):
-    """The machine as it is handed in."""
-    if not made.part:
-        return machine
-    other, name = machine.copy(), PARTS[made.part - 1]
-    setattr(other, name, resized(getattr(other, name), made.length))
-    return other
 
 
 # Groups.
@@ -100,10 +35,11 @@ class Group:
         self.saved, self.room, self.over, self.loads = saved, room, over, list(loads)
 
     def data(self):
-        words = [*self.saved, self.room, *self.over, len(self.loads)]
+        words = [len(self.loads)]
         for each in self.loads:
             words += each
-        return struct.pack(f'<{len(words)}I', *words)
+        return b''.join((packed(self.saved), struct.pack('<I', self.room), packed(self.over),
+                         struct.pack(f'<{len(words)}I', *words)))
 
     def output(self):
         """The answer of the save, and the output after it."""
@@ -118,7 +54,7 @@ class Group:
         total = zlib.adler32(out)
         yield f'w {total}' if answer[0] == 'saved' else refused(answer, total)
         over = machine_of(self.over)
-        before, handed = seeded.digest(over), lent(over, self.over)
+        before, handed = digest(over), lent(over, self.over)
         for place, byte, length in self.loads:
             data = bytearray(out)
             if place < OUT_MOST:
@@ -134,7 +70,7 @@ def load_line(handed, before, data):
     again = bytearray(SIZE)
     if save(target, again) != ('saved', SIZE) or again != data:
         raise AssertionError('an accepted image does not save to its own bytes')
-    return f't {seeded.digest(target)} {zlib.adler32(again)}'
+    return f't {digest(target)} {zlib.adler32(again)}'
 
 
 # Fields.
@@ -255,19 +191,16 @@ def damages(draws):
         yield Group(Made(seed), SIZE + 40 * turn, Made(seed + 1000), loads)
 
 
-SOME = (  # numbers at their limit and past it; the last two of a semaphore wait are mask and condition
+SOME = (  # numbers of every place at their limit and past it
     [(MUTEX, place, value) for place in range(8) for value in (3, 4, 255)]
-    + [(SEMAPHORE, place, value) for place in range(8) for value in (0x0F0F, 0x0010, 0x1000, 0xFFFF)]
+    + [(SEMAPHORE, place, semaphore(*fields)) for place in range(8) for fields in ((15, 15), (16, 0), (0, 16), (255, 255))]
     + [(kind, place, value) for kind in (OWNER, POINTER) for place in range(4) for value in (1, 2, 255)]
-    + [(STALL, place, block | low << 16) for place in range(3)
-       for block, low in ((511, 32767), (512, 0), (0, 32768), (65535, 65535))]
-    + [(WAIT, place, block | mask << 16 | condition << 24) for place in range(3)
-       for block, mask, condition in ((511, 255, 3), (512, 255, 3), (0, 0, 4), (0, 0, 255))]
+    + [(STALL, place, stall(*fields)) for place in range(3) for fields in ((511, 32767), (512, 0), (0, 32768), (65535, 65535))]
+    + [(WAIT, place, wait(*fields)) for place in range(3) for fields in ((511, 255, 3), (512, 255, 3), (0, 0, 4), (0, 0, 255))]
     + [(kind, place, value) for kind in (CELL_A, CELL_B) for place in (0, 1, 1023, 1024, 2047)
        for value in (0x7FFFF, 0x80000, 0xFFFFFFFF)])
 
-LENGTHS = [(part, length) for part, name in enumerate(PARTS, 1)
-           for length in (0, 1, SIZES[name] - 1, SIZES[name], SIZES[name] + 1)]
+LENGTHS = sorted(RIGHT_LENGTHS + WRONG_LENGTHS)
 ROOMS = (0, 1, 48472, 48473, 48474, 48600, OUT_MOST)
 
 
@@ -275,7 +208,7 @@ def saves():
     """Saves that are refused, each number alone and in its order, and saves that are not."""
     yield from (Group(Made(801), room, Made(802)) for room in ROOMS)
     yield from (Group(Made(803, *number), OUT_MOST, Made(802)) for number in SOME)
-    yield from (Group(Made(804, 0, 0, 0, *length), OUT_MOST, Made(802)) for length in LENGTHS)
+    yield from (Group(Made(804, *UNSET, *length), OUT_MOST, Made(802)) for length in LENGTHS)
     for turn, length in enumerate(LENGTHS):
         yield Group(Made(805, *SOME[turn * 7 % len(SOME)], *length), ROOMS[turn % 7], Made(802))
     for turn, number in enumerate(SOME[::5]):
@@ -294,7 +227,7 @@ def overs(draws):
     for number in SOME[::3]:
         yield Group(Made(807), SIZE, Made(808, *number), few(image, draws)[:3])
     for turn, length in enumerate(LENGTHS):
-        number = SOME[turn * 11 % len(SOME)] if turn % 2 else (0, 0, 0)
+        number = SOME[turn * 11 % len(SOME)] if turn % 2 else UNSET
         yield Group(Made(807), SIZE, Made(809, *number, *length), few(image, draws))
 
 

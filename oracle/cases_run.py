@@ -2,17 +2,17 @@
 
     python3 oracle/cases_run.py    prints how the runs end, how long they are and how often threads wait for each other
 
-A case has a machine of its own: a seed's, with one number of it set, or one part of it lent too short.
+A case has a machine of its own: a seed's, with one number of it set, or one part of it lent at another length.
 """
 
 import struct
 from collections import Counter, namedtuple
-from functools import lru_cache
 
 import assemble as asm
+import lent_machines
 import seeded
+from lent_machines import LIMITS, PAST, RIGHT_LENGTHS, UNSET, WRONG_LENGTHS, Made
 from likely import MAKERS, likely_word
-from machine import LENT
 from run import START, Cursor, run
 
 FOLDER = 'crates/run_vectors'
@@ -23,8 +23,8 @@ MOST = 1000000  # turns, at most
 # `words` are the stream's first words; after the last comes number `back` again, until the stream has its length.
 Stream = namedtuple('Stream', 'words back length')
 EMPTY = Stream((), 0, 0)
-# lent: a part's number (1 to 7, in the order of LENT) and its length; number: of SET, and the value.
-Case = namedtuple('Case', 'seed streams budget cursor lent number', defaults=(1000000, START, (0, 0), (0, 0)))
+# number: kind, place and value of the one that is set; lent: the part that has another length, and that length.
+Case = namedtuple('Case', 'seed streams budget cursor number lent', defaults=(MOST, START, UNSET, (0, 0)))
 
 
 def plain(*words):
@@ -41,69 +41,18 @@ def unrolled(stream):
     return words
 
 
-# Machines.
-
-SET = {
-    1: lambda machine, value: machine.mutexes.__setitem__(7, value),
-    2: lambda machine, value: machine.semaphores.__setitem__(3, [value, 15]),
-    3: lambda machine, value: machine.owners.__setitem__(3, value),
-    4: lambda machine, value: machine.pointers.__setitem__(0, value),
-    5: lambda machine, value: machine.waits.__setitem__(1, ('stall', 0, value)),
-    6: lambda machine, value: machine.src_a[1][63].__setitem__(15, value),
-    7: lambda machine, value: machine.src_b[0][0].__setitem__(0, value),
-}
-PAST = {1: 4, 2: 16, 3: 2, 4: 2, 5: 32768, 6: 0x80000, 7: 0x80000}  # the least value out of range
-PARTS = dict(enumerate(LENT, 1))
-
-
-def cut(part, length):
-    """The first numbers of a part, its rows as they are but the last, which may be cut."""
-    if not isinstance(part[0], list):
-        return part[:length]
-    kept = []
-    for row in part:
-        size = numbers_in(row)
-        if length < size:
-            return kept + [cut(row, length)] if length else kept
-        kept.append(row)
-        length -= size
-    return kept
-
-
-def numbers_in(part):
-    return sum(map(numbers_in, part)) if isinstance(part, list) else 1
-
-
-@lru_cache(maxsize=None)
-def made(seed):
-    return seeded.machine(seed)
-
-
-def machine_of(case):
-    machine = made(case.seed).copy()
-    if case.number[0]:
-        SET[case.number[0]](machine, case.number[1])
-    return machine
-
-
-def lent_of(machine, case):
-    """What is handed in: the machine itself, or a copy of which one part is too short."""
-    part, length = case.lent
-    if not part:
-        return machine
-    lent = machine.copy()
-    setattr(lent, PARTS[part], cut(getattr(lent, PARTS[part]), length))
-    return lent
+def made_of(case):
+    return Made(case.seed, *case.number, *case.lent)
 
 
 def played(case):
     """The run of a case, and the machine's digest after it."""
-    machine = machine_of(case)
-    lent = lent_of(machine, case)
+    machine = lent_machines.machine_of(made_of(case))
+    lent = lent_machines.lent(machine, made_of(case))
     result = run(lent, [unrolled(stream) for stream in case.streams], case.cursor, case.budget)
     if lent is not machine and result.answer[0] != 'rejected':
         raise AssertionError(case)
-    return result, seeded.digest(machine)
+    return result, lent_machines.digest(machine)
 
 
 def first_waits(seed):
@@ -251,11 +200,9 @@ def faults(draws):
     streams = [plain(NOP, REFUSED_2), plain(asm.setdmareg(4, 0x1234)), EMPTY]
     over = streams[:]
     over[draws.draw() % 3] = Stream((NOP,), 0, FULL + 1)
-    part, which = 1 + draws.draw() % 7, 1 + draws.draw() % 7
-    whole = numbers_in(getattr(made(QUIET[0]), PARTS[part]))
     return {
-        4: [{'streams': over}, {'lent': (part, pick(draws, (0, 1, whole - 1)))}],
-        10: [{'number': (which, PAST[which])}],
+        4: [{'streams': over}, {'lent': pick(draws, WRONG_LENGTHS)}],
+        10: [{'number': pick(draws, PAST)}],
         5: [{'cursor': Cursor((3, 0, 0), 0)}, {'cursor': Cursor((0, 2, 0), 1)}, {'cursor': Cursor((0, 0, 1), 2)},
             {'cursor': Cursor((0, 0, 0xFFFFFFFF), 0)}, {'cursor': Cursor((2, 1, 0), 3)},
             {'cursor': Cursor((0, 0, 0), 0xFFFFFFFF)}],
@@ -276,15 +223,13 @@ def refused_calls(draws):
 
 
 def single_faults():
-    """Each part too short by one and empty, each number at its limit and past it, each stream full and over."""
+    """Each part at its length and at others, each number at its limit and past it, each stream full and over."""
     streams = [plain(NOP), plain(asm.setdmareg(4, 0x1234)), plain(asm.sempost(255), asm.atgetm(7))]
-    for part, name in PARTS.items():
-        whole = numbers_in(getattr(made(QUIET[0]), name))
-        for length in (0, 1, whole - 1):
-            yield Case(QUIET[0], streams, 9, START, (part, length))
-    for which, past in PAST.items():
-        for value in (0, past - 1, past, past + 1):
-            yield Case(QUIET[1], streams, 9, START, (0, 0), (which, value))
+    for lent in RIGHT_LENGTHS + WRONG_LENGTHS:
+        yield Case(QUIET[0], streams, 9, START, UNSET, lent)
+    for limit in LIMITS:
+        for value in (0, limit.past - limit.one, limit.past, limit.past + limit.one):
+            yield Case(QUIET[1], streams, 9, START, (limit.kind, limit.place, value))
     for at in range(3):
         for length in (FULL, FULL + 1):
             for budget in (0, 1, 7):
@@ -315,12 +260,10 @@ def cases():
 
 def packed(case):
     """A case as bytes."""
-    part, length = case.lent
-    which, value = case.number
-    words = [case.seed, part + 8 * length, which + 8 * value, case.budget, *case.cursor.positions, case.cursor.next]
+    words = [case.budget, *case.cursor.positions, case.cursor.next]
     for stream in case.streams:
         words += [len(stream.words), stream.back, stream.length, *stream.words]
-    return struct.pack(f'<{len(words)}I', *words)
+    return lent_machines.packed(made_of(case)) + struct.pack(f'<{len(words)}I', *words)
 
 
 def line(result, digest):

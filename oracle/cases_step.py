@@ -2,8 +2,7 @@
 
     python3 oracle/cases_step.py    prints how many cases have each outcome
 
-A group is a seed and cases (thread, word); its machine goes on from case to case. Bits 28–31 of the seed say which lent part
-is handed in too short, bits 24–27 which number is just past its range; 0 is none.
+A group is how its machine is made and lent, and cases (thread, word); the machine goes on from case to case.
 """
 
 import struct
@@ -12,8 +11,9 @@ from collections import Counter
 import assemble as asm
 import seeded
 from bits import bits
-from decode import TABLE, cleared_rows, decode
-from machine import LENT, well_formed
+from decode import TABLE
+from lent_machines import AT_END, PAST, RIGHT_LENGTHS, UNSET, WRONG_LENGTHS, Made, digest, lent, machine_of, packed
+from machine import well_formed
 from waits import holds
 from words import offer, step
 
@@ -25,53 +25,27 @@ PLACES = {name: places for name, _, places in TABLE.values()}
 OPCODE = {name: opcode for opcode, (name, _, _) in TABLE.items()}
 
 
-# Machines that a call must refuse.
-
-CELLS = {
-    10: lambda machine: machine.src_a[1][63].__setitem__(15, 0x80000),
-    11: lambda machine: machine.src_b[0][0].__setitem__(0, 0x80000),
-}
-PARTS = tuple(LENT)  # 1 to 7: the part lacks its last number; 8 to 14: it is empty
-
-
-def shortened(machine, number):
-    """The machine as it is handed in."""
-    if not 1 <= number <= 14:
-        return machine
-    lent, name = machine.copy(), PARTS[(number - 1) % 7]
-    if number > 7:
-        setattr(lent, name, [])
-        return lent
-    row = getattr(lent, name)
-    while isinstance(row[-1], list):
-        row = row[-1]
-    row.pop()
-    return lent
-
-
 class Group:
-    """A seed's machine, its cases so far, and the line of each."""
+    """A machine, its cases so far, and the line of each."""
 
-    def __init__(self, seed):
-        self.seed = seed
-        self.machine = seeded.machine(seed)
-        number = bits(seed, 24, 27)
-        seeded.put_at_limit(self.machine, number)
-        CELLS.get(number, lambda machine: None)(self.machine)
-        self.lent = shortened(self.machine, bits(seed, 28, 31))
-        self.sum = seeded.digest(self.machine)
+    def __init__(self, made):
+        self.made = made
+        self.plain = made == Made(made.seed)
+        self.machine = machine_of(made)
+        self.lent = lent(self.machine, made)
+        self.sum = digest(self.machine)
         self.cases, self.lines = [], []
 
     def answer(self, thread, word):
         """A well formed machine stays so, and its checks are slow: they are left out where they cannot matter."""
-        if self.seed < 1 << 24 and thread < 3:
+        if self.plain and thread < 3:
             return offer(self.machine, thread, word)
         return step(self.lent, thread, word)
 
     def case(self, thread, word):
         answer = self.answer(thread, word)
         if answer[0] == 'passed':
-            self.sum = seeded.digest(self.machine)
+            self.sum = digest(self.machine)
         self.cases.append((thread, word))
         self.lines.append(' '.join((answer[0][0], *map(str, answer[1:]), str(self.sum))))
         return answer
@@ -97,8 +71,8 @@ class Group:
 
     def check(self):
         """What the digests of the cases rest on."""
-        if self.seed < 1 << 24 and not well_formed(self.machine) or self.sum != seeded.digest(self.machine):
-            raise AssertionError(self.seed)
+        if self.plain and not well_formed(self.machine) or self.sum != digest(self.machine):
+            raise AssertionError(self.made)
         return self
 
 
@@ -300,36 +274,36 @@ def zeroacc(flags, wide, half):
     return on
 
 
-def refused(group, draws):
-    """Calls that the machine's state refuses, whatever the thread and the word."""
+def checked(group, draws):
+    """Calls that a machine which is not well formed, or lent at a wrong length, refuses, whatever the thread and the word."""
     for thread, word in ((0, asm.nop()), (1, asm.setdmareg(4, 0x1234)), (2, 0xFF000000), (2, asm.wrcfg(index=256)),
                          (3, asm.nop()), (0xFFFFFFFF, asm.nop()), (0, likely_word(draws))):
         group.case(thread, word)
 
 
-def damages():
-    """The top byte of a seed: each wrong number, each short part, and some of both."""
-    for number in range(1, 13):
-        yield number
-    for short in range(1, 16):
-        yield short << 4
-        yield short << 4 | 1 + short * 5 % 11
+def spoiled():
+    """Machines with each number at the end of its range and past it, each part lent at its length and at others, and some of both."""
+    for number in (UNSET, *AT_END, *PAST):
+        yield Made(77, *number)
+    for turn, length in enumerate(RIGHT_LENGTHS + WRONG_LENGTHS):
+        yield Made(77, *UNSET, *length)
+        yield Made(77, *PAST[turn * 5 % len(PAST)], *length)
 
 
 def plan(draws):
-    """Seeds and what their groups play."""
+    """Machines and what their groups play."""
     edges = shuffled(edge_words(draws) + edge_words(draws) + edge_words(draws), draws)
     scenes = [play(edges[at:at + 150]) for at in range(0, len(edges), 150)]
     scenes += [likely] * 16 + [noise] * 4 + [waits] * 28 + [semaphores] * 3 + [mutexes] * 3 + [banks] * 6
     scenes += [zeroacc(flags, wide, half) for flags in range(4) for wide in (0, 1) for half in (0, 1)]
-    return [(1000 + at, scene) for at, scene in enumerate(scenes)] + [(top << 24 | 77, refused) for top in damages()]
+    return [(Made(1000 + at), scene) for at, scene in enumerate(scenes)] + [(made, checked) for made in spoiled()]
 
 
 def groups():
     """All groups, played."""
     draws = seeded.Draws(20240)
-    for seed, scene in plan(draws):
-        group = Group(seed)
+    for made, scene in plan(draws):
+        group = Group(made)
         scene(group, draws)
         yield group.check()
 
@@ -337,7 +311,7 @@ def groups():
 def files():
     stdin, stdout = [], []
     for group in groups():
-        stdin.append(struct.pack('<II', group.seed, len(group.cases)))
+        stdin.append(packed(group.made) + struct.pack('<I', len(group.cases)))
         stdin += [struct.pack('<II', *case) for case in group.cases]
         stdout += group.lines
     return {f'{FOLDER}/stdin': b''.join(stdin), f'{FOLDER}/stdout': ''.join(line + '\n' for line in stdout).encode()}

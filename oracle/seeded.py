@@ -80,33 +80,6 @@ def machine(seed):
     return machine_from(Draws(seed))
 
 
-# Numbers of the control part just past their range, and at the end of it.
-PAST = {
-    1: ('mutexes', 7, 4),
-    2: ('semaphores', 7, [16, 15]),
-    3: ('semaphores', 0, [0, 16]),
-    4: ('owners', 3, 2),
-    5: ('pointers', 3, 2),
-    6: ('waits', 0, ('stall', 512, 0)),
-    7: ('waits', 1, ('stall', 0, 32768)),
-    8: ('waits', 2, ('semaphore', 512, 0, 0)),
-    9: ('waits', 0, ('semaphore', 0, 0, 4)),
-}
-AT_END = {
-    16: ('mutexes', 7, 3),
-    17: ('semaphores', 7, [15, 15]),
-    18: ('waits', 1, ('stall', 511, 32767)),
-    19: ('waits', 2, ('semaphore', 511, 255, 3)),
-}
-
-
-def put_at_limit(made, number):
-    """Puts the numbers of a limit into a machine; any other number leaves it."""
-    part, place, value = (PAST | AT_END).get(number, (None, None, None))
-    if part is not None:
-        getattr(made, part)[place] = value[:] if isinstance(value, list) else value
-
-
 flat = chain.from_iterable
 
 SETTINGS = struct.Struct('<192H')
@@ -117,15 +90,21 @@ DEST = struct.Struct('<16384H')
 SOURCE = struct.Struct('<2048I')
 
 
-def state_bytes(made):
-    """Every part of a machine, little-endian, in the order of the checksum."""
+def control_bytes(made):
+    """The control part, little-endian, in the order of the checksum."""
     return b''.join((
-        SETTINGS.pack(*flat(made.settings)),
         bytes(made.mutexes),
         bytes(flat(made.semaphores)),
         b''.join(WAIT.pack(*wait_numbers(wait)) for wait in made.waits),
         bytes(made.owners),
         bytes(made.pointers),
+    ))
+
+
+def state_bytes(made, times=1):
+    """Every part of a machine, little-endian, in the order of the checksum, and after a lent one zeros up to so many times its size."""
+    settings, *stores = (part.ljust(times * len(part), b'\0') for part in (
+        SETTINGS.pack(*flat(made.settings)),
         GPRS.pack(*flat(made.gprs)),
         CONFIG.pack(*flat(made.config)),
         DEST.pack(*flat(made.dest)),
@@ -133,8 +112,9 @@ def state_bytes(made):
         SOURCE.pack(*flat(flat(made.src_a))),
         SOURCE.pack(*flat(flat(made.src_b))),
     ))
+    return b''.join((settings, control_bytes(made), *stores))
 
 
-def digest(made):
+def digest(made, times=1):
     """Checksum of the whole state."""
-    return zlib.adler32(state_bytes(made))
+    return zlib.adler32(state_bytes(made, times))

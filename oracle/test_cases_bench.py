@@ -5,8 +5,9 @@ from collections import defaultdict
 from itertools import combinations
 
 import cases_bench as cases
+from lent_machines import AT_END, PAST, set_control
 from machine import Machine
-from seeded import PAST, Draws, control_from
+from seeded import Draws, control_from
 
 ORDER = (4, 10, 1, 11, 12, 8)
 TOO_FEW = (cases.SHORTER, cases.NONE)
@@ -38,12 +39,14 @@ def wrong_write(limit):
     return wrong
 
 
-def wrong_source(lengths, file, row, over, seed, control, bad):
+def wrong_source(lengths, file, row, over, seed, control, bad, number):
     machine = Machine()
     control_from(Draws(control), machine)
+    if number in AT_END:
+        set_control(machine, *number)
     too_wide = over >> 19 != 0
     yield 4, any(lengths[:3])
-    yield 10, lengths[4] in PAST
+    yield 10, number in PAST
     yield 10, too_wide and bad // 256 % 4096 < 2048
     yield 10, too_wide and bad // 1048576 < 2048
     yield 11, file > 1
@@ -81,7 +84,7 @@ class Cases(unittest.TestCase):
         for (call, lengths, *numbers), line in zip(self.cases, self.lines):
             if call not in WRONG:
                 continue
-            parts = [*(lengths >> place & 3 for place in (0, 2, 4, 6)), lengths >> 8]
+            parts = [lengths >> place & 3 for place in (0, 2, 4, 6)]
             faults = {number for number, wrong in WRONG[call](parts, *numbers) if wrong}
             faults = sorted(faults, key=ORDER.index)
             if faults:

@@ -70,22 +70,6 @@ class Machines(unittest.TestCase):
         self.assertTrue({None, 'stall', 'semaphore'} <= set(kinds))
 
 
-class Limits(unittest.TestCase):
-    def test_past_a_range_and_at_its_end(self):
-        for number in range(32):
-            machine = busy(3)
-            seeded.put_at_limit(machine, number)
-            self.assertEqual(well_formed(machine), number not in seeded.PAST, number)
-            self.assertEqual(machine == busy(3), number not in seeded.PAST | seeded.AT_END, number)
-
-    def test_limits_are_not_shared(self):
-        machine = busy(3)
-        seeded.put_at_limit(machine, 17)
-        machine.semaphores[7][0] = 0
-        seeded.put_at_limit(machine, 17)
-        self.assertEqual(machine.semaphores[7], [15, 15])
-
-
 class Digest(unittest.TestCase):
     def test_fresh(self):
         # Of 53,423 zero bytes.
@@ -128,6 +112,15 @@ class Digest(unittest.TestCase):
                         put(cell, 4)
         self.assertEqual(seeded.state_bytes(machine), bytes(data))
         self.assertEqual(seeded.digest(machine), zlib.adler32(bytes(data)))
+
+    def test_zeros_after_each_lent_part(self):
+        # Of 53,376 bytes of lent parts, twice, and 47 of the control part.
+        self.assertEqual(seeded.digest(fresh(), 2), (2 * 53376 + 47) % 65521 << 16 | 1)
+        machine, data = busy(90), seeded.state_bytes(busy(90), 2)
+        self.assertEqual(data[:384], seeded.SETTINGS.pack(*seeded.flat(machine.settings)))
+        self.assertEqual(data[384:768], bytes(384))
+        self.assertEqual(data[768:815], seeded.control_bytes(machine))
+        self.assertEqual(data[-8192:], bytes(8192))
 
     def test_fixed_values(self):
         self.assertEqual([seeded.digest(busy(seed)) for seed in (0, 1)], [3190906842, 2916499584])

@@ -17,7 +17,7 @@ import assemble as asm
 import cases_emulate
 import cases_run
 import vectors
-from machine import LENT
+from lent_machines import AT_END, PAST, UNSET, whole
 from program import emulate
 from run import Cursor
 from seeded import Draws
@@ -139,30 +139,22 @@ class RunCases(unittest.TestCase):
         self.assertEqual(cases_run.unrolled(cases_run.Stream((7, 8, 9), 0, 2)), [7, 8])
         self.assertEqual(cases_run.unrolled(cases_run.EMPTY), [])
 
-    def test_cut_parts(self):
-        machine = cases_run.made(cases_run.QUIET[0])
-        for name in LENT:
-            part = getattr(machine, name)
-            whole = cases_run.numbers_in(part)
-            for length in (0, 1, 16, 17, whole - 1):
-                self.assertEqual(cases_run.numbers_in(cases_run.cut(part, length)), length)
-            self.assertEqual(cases_run.cut(part, whole), part)
-
     def test_waits_of_a_seed(self):
         for seed in cases_run.QUIET[:3] + cases_run.ANY[:3]:
-            self.assertEqual(cases_run.first_waits(seed), cases_run.made(seed).waits)
+            self.assertEqual(cases_run.first_waits(seed), whole(seed).waits)
 
     def test_numbers_at_their_limit(self):
-        for which, past in cases_run.PAST.items():
-            for value, answer in ((past - 1, ('finished',)), (past, ('rejected', 10))):
-                case = cases_run.Case(cases_run.QUIET[0], [cases_run.EMPTY] * 3, number=(which, value))
+        for numbers, answer in ((AT_END, ('finished',)), (PAST, ('rejected', 10))):
+            for number in numbers:
+                case = cases_run.Case(cases_run.QUIET[0], [cases_run.EMPTY] * 3, number=number)
                 self.assertEqual(cases_run.played(case)[0].answer, answer)
 
     def test_packed(self):
         case = cases_run.Case(6, [cases_run.Stream((7, 8), 1, 3), cases_run.EMPTY, cases_run.plain(9)], 10,
-                              Cursor((1, 2, 3), 4), (5, 6), (7, 8))
-        self.assertEqual(struct.unpack('<20I', cases_run.packed(case)),
-                         (6, 53, 71, 10, 1, 2, 3, 4, 2, 1, 3, 7, 8, 0, 0, 0, 1, 0, 1, 9))
+                              Cursor((1, 2, 3), 4), (5, 6, 7), (8, 9))
+        self.assertEqual(struct.unpack('<23I', cases_run.packed(case)),
+                         (6, 5, 6, 7, 8, 9, 10, 1, 2, 3, 4, 2, 1, 3, 7, 8, 0, 0, 0, 1, 0, 1, 9))
+        self.assertEqual(cases_run.made_of(case._replace(number=UNSET))[1:], (0, 0, 0, 8, 9))
 
 
 if __name__ == '__main__':

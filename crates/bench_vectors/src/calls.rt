@@ -3,13 +3,13 @@ use crate::case::Case;
 use crate::lengths::lent;
 use crate::print;
 use answers::Access;
+use lent_machines::number::set_number;
 use machine::control::Control;
 use machine::sizes::CELL_MOST;
 use seeded::controls::draw_control;
 use seeded::fills::fill_halves;
 use seeded::fills::fill_marks;
 use seeded::fills::fill_words;
-use seeded::limits::at_limit;
 use seeded::sums;
 
 // The line of the stores, with a checksum of them all.
@@ -21,7 +21,7 @@ fn print_stores(gprs: &[u32], dest: &[u16], marks: &[bool], src_a: &[u32], src_b
 }
 
 // The stores from the seed.
-pub fn refill(
+pub(crate) fn refill(
     case: Case,
     gprs: &mut [u32],
     dest: &mut [u16],
@@ -37,13 +37,13 @@ pub fn refill(
     print_stores(gprs, dest, marks, src_a, src_b);
 }
 
-pub fn read_gpr(case: Case, gprs: &[u32]) {
+pub(crate) fn read_gpr(case: Case, gprs: &[u32]) {
     let n = lent(gprs.len(), case.lengths, 0);
     let answer = gpr_access::read_gpr(&gprs[..n], case.first, case.second);
     print::print_read(answer);
 }
 
-pub fn write_gpr(case: Case, gprs: &mut [u32]) {
+pub(crate) fn write_gpr(case: Case, gprs: &mut [u32]) {
     let n = lent(gprs.len(), case.lengths, 0);
     let answer = gpr_access::write_gpr(&mut gprs[..n], case.first, case.second, case.third);
     let sum = sums::add_words(sums::start(), gprs);
@@ -51,7 +51,7 @@ pub fn write_gpr(case: Case, gprs: &mut [u32]) {
 }
 
 // The flag words of both banks.
-pub fn set_flags(config: &mut [u32], left: u32, right: u32) {
+pub(crate) fn set_flags(config: &mut [u32], left: u32, right: u32) {
     if 511 < config.len() {
         config[255] = left;
         config[511] = right;
@@ -73,7 +73,7 @@ fn ask_read16(case: Case, config: &[u32], dest: &[u16], marks: &[bool], out: &mu
     )
 }
 
-pub fn read_row16(case: Case, config: &[u32], dest: &[u16], marks: &[bool]) {
+pub(crate) fn read_row16(case: Case, config: &[u32], dest: &[u16], marks: &[bool]) {
     let mut out = [0u16; 17];
     fill_halves(case.seed, &mut out);
     let answer = ask_read16(case, config, dest, marks, &mut out);
@@ -96,7 +96,7 @@ fn ask_read32(case: Case, config: &[u32], dest: &[u16], marks: &[bool], out: &mu
     )
 }
 
-pub fn read_row32(case: Case, config: &[u32], dest: &[u16], marks: &[bool]) {
+pub(crate) fn read_row32(case: Case, config: &[u32], dest: &[u16], marks: &[bool]) {
     let mut out = [0u32; 17];
     fill_words(case.seed, u32::MAX, &mut out);
     let answer = ask_read32(case, config, dest, marks, &mut out);
@@ -131,7 +131,7 @@ fn print_dest(answer: Access, dest: &[u16], marks: &[bool]) {
     print::print_access(answer, sums::checksum(sum));
 }
 
-pub fn write_row16(case: Case, config: &[u32], dest: &mut [u16], marks: &mut [bool]) {
+pub(crate) fn write_row16(case: Case, config: &[u32], dest: &mut [u16], marks: &mut [bool]) {
     let mut cells = [0u16; 17];
     fill_halves(case.seed, &mut cells);
     let answer = ask_write16(case, config, dest, marks, &cells);
@@ -159,7 +159,7 @@ fn ask_write32(
     )
 }
 
-pub fn write_row32(case: Case, config: &[u32], dest: &mut [u16], marks: &mut [bool]) {
+pub(crate) fn write_row32(case: Case, config: &[u32], dest: &mut [u16], marks: &mut [bool]) {
     let mut cells = [0u32; 17];
     fill_words(case.seed, u32::MAX, &mut cells);
     let answer = ask_write32(case, config, dest, marks, &cells);
@@ -203,7 +203,7 @@ fn ask_source_row(case: Case, src_a: &mut [u32], src_b: &mut [u32]) -> Access {
     fill_words(case.seed, CELL_MOST, &mut cells);
     put_at(&mut cells, case.right % 256, case.third);
     let drawn = draw_control(case.left);
-    let control = at_limit(drawn.control, case.limit);
+    let control = set_number(drawn.control, case.number);
     ask_source(case, control, src_a, src_b, &cells)
 }
 
@@ -214,7 +214,7 @@ fn print_sources(answer: Access, src_a: &[u32], src_b: &[u32]) {
 }
 
 // A number out of range stands in each store during the call, if the case says where.
-pub fn write_source_row(case: Case, src_a: &mut [u32], src_b: &mut [u32]) {
+pub(crate) fn write_source_row(case: Case, src_a: &mut [u32], src_b: &mut [u32]) {
     let in_a = case.right / 256 % 4096;
     let in_b = case.right / 1048576;
     let old_a = put_at(src_a, in_a, case.third);
@@ -225,7 +225,7 @@ pub fn write_source_row(case: Case, src_a: &mut [u32], src_b: &mut [u32]) {
     put_at(src_b, in_b, old_b);
 }
 
-pub fn show_row<'a>(case: Case, src_a: &'a [u32], src_b: &'a [u32]) {
+pub(crate) fn show_row<'a>(case: Case, src_a: &'a [u32], src_b: &'a [u32]) {
     let a = lent(src_a.len(), case.lengths, 0);
     let b = lent(src_b.len(), case.lengths, 2);
     let shown = source_access::show_row(

@@ -2,7 +2,7 @@
 ghost use Prim.Native.Nat.{_≤_};
 
 // How much of a store is lent, by two bits of the case from a place on: all but its last entry; one less; one more; nothing.
-pub fn lent(store: usize, lengths: u32, place: u32) -> usize
+pub(crate) fn lent(store: usize, lengths: u32, place: u32) -> usize
     ensures { λ r. ⌜ r ≤ store ⌝ }
 {
     if store < 2 {

@@ -19,13 +19,13 @@ fn print_refused(r: Refusal) {
     print_number(refusal_number(r));
 }
 
-pub fn print_filled(sum: u32) {
+pub(crate) fn print_filled(sum: u32) {
     io::write_all(STDOUT_FILENO, b"filled");
     print_number(sum);
     print_end();
 }
 
-pub fn print_read(answer: GprRead) {
+pub(crate) fn print_read(answer: GprRead) {
     match answer {
         GprRead::Value(v) => {
             io::write_all(STDOUT_FILENO, b"value");
@@ -36,7 +36,7 @@ pub fn print_read(answer: GprRead) {
     print_end();
 }
 
-pub fn print_access(answer: Access, sum: u32) {
+pub(crate) fn print_access(answer: Access, sum: u32) {
     match answer {
         Access::Granted => {
             io::write_all(STDOUT_FILENO, b"done");
@@ -47,7 +47,7 @@ pub fn print_access(answer: Access, sum: u32) {
     print_end();
 }
 
-pub fn print_shown(cells: usize, sum: u32) {
+pub(crate) fn print_shown(cells: usize, sum: u32) {
     io::write_all(STDOUT_FILENO, b"shown ");
     io::print_decimal(STDOUT_FILENO, cells as u64);
     print_number(sum);

@@ -1,15 +1,20 @@
 // A group: a machine saved, and loads from what was written.
 ghost use Prim.Native.Nat.{_+_, _≤_, _<_};
 ghost use lib.ListN.{length};
+use crate::lent::save;
 use crate::lines::write_saved;
 use crate::loads::run_loads;
-use crate::made::Made;
-use crate::made::least;
-use crate::made::read_made;
-use crate::parts::make;
-use crate::parts::save;
 use format::number::read;
-use image::Saved;
+use lent_machines::lengths::least;
+use lent_machines::lengths::lent_lengths;
+use lent_machines::made::MADE_BYTES;
+use lent_machines::made::Made;
+use lent_machines::made::read_made;
+use lent_machines::parts::make;
+use whole_images::save_whole;
+
+// A group up to its loads.
+pub(crate) const HEADER_BYTES: usize = 56;
 
 // The longest output: some bytes more than an image.
 const OUT_MOST: usize = 48640;
@@ -23,39 +28,17 @@ fn sum_of(out: &[u8]) -> u32 {
     seeded::sums::checksum(seeded::sums::add_bytes(seeded::sums::start(), out))
 }
 
-fn fresh_saved(out: &mut [u8]) -> Saved {
-    let m = machine::fresh::fresh();
-    let settings = m.settings;
-    let gprs = m.gprs;
-    let config = m.config;
-    let dest = m.dest;
-    let marks = m.marks;
-    let src_a = m.src_a;
-    let src_b = m.src_b;
-    image::save(
-        m.control,
-        &settings,
-        &gprs,
-        &config,
-        &dest,
-        &marks,
-        &src_a,
-        &src_b,
-        out,
-    )
-}
-
 // Saves a fresh machine.
-pub fn save_fresh() {
+pub(crate) fn save_fresh() {
     let mut out = [UNWRITTEN; OUT_MOST];
-    let done = fresh_saved(&mut out);
+    let done = save_whole(machine::fresh::fresh(), &mut out);
     write_saved(done, sum_of(&out));
 }
 
 // Makes a machine, saves it into the first `room` bytes of the output, and writes the line.
 fn save_made(m: Made, room: u32, out: &mut [u8]) {
     let n = least(room as usize, out.len());
-    let done = save(make(m), m, &mut out[..n]);
+    let done = save(make(m), lent_lengths(m), &mut out[..n]);
     write_saved(done, sum_of(out));
 }
 
@@ -80,15 +63,15 @@ fn loads_end(from: usize, count: u32, len: usize) -> usize
 }
 
 // The group that starts at `at`; answers where the next one starts.
-pub fn run_group(input: &[u8], at: usize) -> usize
+pub(crate) fn run_group(input: &[u8], at: usize) -> usize
     requires { ⌜ at + 56 ≤ length (now input) ⌝ }
     ensures { λ r. ⌜ (at < r) × (r ≤ length (now (input .entry))) ⌝ }
 {
     let saved = read_made(input, at);
-    let room = read(input, at + 24, 4);
-    let over = read_made(input, at + 28);
-    let count = read(input, at + 52, 4);
-    let from = at + 56;
+    let room = read(input, at + MADE_BYTES, 4);
+    let over = read_made(input, at + MADE_BYTES + 4);
+    let count = read(input, at + 2 * MADE_BYTES + 4, 4);
+    let from = at + HEADER_BYTES;
     let end = loads_end(from, count, input.len());
     run_made(saved, room, over, &input[from..end]);
     end

@@ -15,7 +15,7 @@ fn end_line(sum: u32) {
 }
 
 // `r N SUM`, or `r 9 OFFSET SUM`.
-pub fn write_refused(r: Refusal, sum: u32) {
+pub(crate) fn write_refused(r: Refusal, sum: u32) {
     write_number(b"r ", refusal_number(r) as u64);
     if let Refusal::BadImage(offset) = r {
         write_number(b" ", offset as u64);
@@ -24,7 +24,7 @@ pub fn write_refused(r: Refusal, sum: u32) {
 }
 
 // `w SUM`, or that it is refused.
-pub fn write_saved(s: Saved, sum: u32) {
+pub(crate) fn write_saved(s: Saved, sum: u32) {
     match s {
         Saved::NotSaved(r) => write_refused(r, sum),
         Saved::Written => {
@@ -35,7 +35,7 @@ pub fn write_saved(s: Saved, sum: u32) {
 }
 
 // `t DIGEST SUM`.
-pub fn write_taken(digest: u32, sum: u32) {
+pub(crate) fn write_taken(digest: u32, sum: u32) {
     write_number(b"t ", digest as u64);
     end_line(sum);
 }

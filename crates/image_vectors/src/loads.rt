@@ -1,18 +1,20 @@
 // The loads of a group, each over the machine that the group names.
 ghost use Prim.Native.Nat.{_+_, _≤_};
 ghost use lib.ListN.{length};
+use crate::lent::PartsLoaded;
+use crate::lent::load;
+use crate::lent::save;
 use crate::lines::write_refused;
 use crate::lines::write_taken;
-use crate::made::Made;
-use crate::made::least;
-use crate::parts::Parts;
-use crate::parts::PartsLoaded;
-use crate::parts::digest;
-use crate::parts::load;
-use crate::parts::make;
-use crate::parts::save;
 use format::number::read;
 use image::LoadAnswer;
+use lent_machines::lengths::Lengths;
+use lent_machines::lengths::least;
+use lent_machines::lengths::lent_lengths;
+use lent_machines::made::Made;
+use lent_machines::parts::Parts;
+use lent_machines::parts::digest;
+use lent_machines::parts::make;
 
 // A load's place, byte and image length.
 struct Damage {
@@ -33,30 +35,30 @@ fn set_byte(out: &mut [u8], at: u32, b: u8) -> u8 {
 }
 
 // A load from the output, which is as it was afterwards.
-fn load_damaged(p: Parts, m: Made, out: &mut [u8], d: Damage) -> PartsLoaded {
+fn load_damaged(p: Parts, n: Lengths, out: &mut [u8], d: Damage) -> PartsLoaded {
     let old = set_byte(out, d.at, (d.byte % 256) as u8);
-    let n = least(d.length as usize, out.len());
-    let done = load(p, m, &out[..n]);
+    let k = least(d.length as usize, out.len());
+    let done = load(p, n, &out[..k]);
     set_byte(out, d.at, old);
     done
 }
 
 // The line of a machine that was loaded, which is saved again.
-fn write_loaded(p: Parts, m: Made, again: &mut [u8]) {
+fn write_loaded(p: Parts, n: Lengths, again: &mut [u8]) {
     let sum = digest(p);
-    save(p, m, again);
+    save(p, n, again);
     let whole = seeded::sums::add_bytes(seeded::sums::start(), again);
     write_taken(sum, seeded::sums::checksum(whole));
 }
 
 // One load over a machine, and its line.
-fn run_load(p: Parts, m: Made, out: &mut [u8], again: &mut [u8], d: Damage) {
-    let done = load_damaged(p, m, out, d);
+fn run_load(p: Parts, n: Lengths, out: &mut [u8], again: &mut [u8], d: Damage) {
+    let done = load_damaged(p, n, out, d);
     let after = done.parts;
     let answer = done.answer;
     match answer {
         LoadAnswer::NotLoaded(r) => write_refused(r, digest(after)),
-        LoadAnswer::Taken => write_loaded(after, m, again),
+        LoadAnswer::Taken => write_loaded(after, n, again),
     }
 }
 
@@ -71,12 +73,13 @@ fn damage_at(s: &[u8], at: usize) -> Damage
 }
 
 // All loads of a group, each over the machine that `m` is of.
-pub fn run_loads(m: Made, out: &mut [u8], again: &mut [u8], loads: &[u8]) {
+pub(crate) fn run_loads(m: Made, out: &mut [u8], again: &mut [u8], loads: &[u8]) {
     let p = make(m);
+    let n = lent_lengths(m);
     let mut at = 0;
     while 12 <= loads.len() - at {
         let d = damage_at(loads, at);
-        run_load(p, m, out, again, d);
+        run_load(p, n, out, again, d);
         at += 12;
     }
 }

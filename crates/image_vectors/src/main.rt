@@ -1,14 +1,13 @@
 // Saves and loads images and prints what came of each call, for comparison with the oracle. The first line is of a fresh
-// machine. Standard input, in words of 4 bytes, is groups: how the machine is made that is saved (6 words, `made.rt`), how
+// machine. Standard input, in words of 4 bytes, is groups: how the machine is made that is saved (6 words, `lent_machines`), how
 // long the output is, how the machine is made that is loaded over (6), a count, and that many loads. A load is a place in the
 // output, the byte that stands there for this load, and how many bytes of the output are the image. A line is `w SUM`,
 // `r N SUM` of a save, with the sum of the whole output; `t DIGEST SUM`, `r N DIGEST` or `r 9 OFFSET DIGEST` of a load, with
 // the machine's digest after it and the sum of the image that is saved of it again.
 mod group;
+mod lent;
 mod lines;
 mod loads;
-mod made;
-mod parts;
 
 ghost use mathlib.Core.Path.{_≡_};
 ghost use lib.ListN.{length};
@@ -19,7 +18,7 @@ const INPUT_MOST: usize = 262144;
 // The groups, one after the other, up to the input's end or a header that is cut.
 fn run_groups(input: &[u8]) {
     let mut at = 0;
-    while 56 <= input.len() - at {
+    while group::HEADER_BYTES <= input.len() - at {
         at = group::run_group(input, at);
     }
 }

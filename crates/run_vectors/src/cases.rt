@@ -1,38 +1,30 @@
 // A case: its machine, its run, and its line.
 ghost use Prim.Native.Nat.{_+_, _≤_, _<_};
 ghost use lib.ListN.{length};
-use crate::control::set_control;
 use crate::input::CASE_BYTES;
 use crate::input::cursor_at;
 use crate::input::take_stream;
 use crate::input::word_at;
 use crate::lines::write_line;
-use faults::Short;
-use faults::lent_length;
-use faults::set_cell;
+use lent_machines::lengths::least;
+use lent_machines::lengths::lent_lengths;
+use lent_machines::made::MADE_BYTES;
+use lent_machines::made::Made;
+use lent_machines::made::read_made;
+use lent_machines::parts::make;
 use machine::control::Control;
-use machine::sizes::CONFIG_WORDS;
-use machine::sizes::DEST_CELLS;
-use machine::sizes::DEST_ROWS;
-use machine::sizes::GPRS;
-use machine::sizes::SETTINGS;
-use machine::sizes::SOURCE_CELLS;
 use run::Ran;
-use seeded::controls::draw_control;
 use seeded::digest::digest;
-use seeded::whole::fill_machine;
 use turns::cursor::Cursor;
 
-// What a case says beside its streams: the seed, what is lent too short, what is set in the machine, the budget, the cursor.
-pub struct Case {
-    pub seed: u32,
-    pub short: Short,
-    pub set: u32,
-    pub budget: u32,
-    pub cursor: Cursor,
+// What a case says beside its streams: how the machine is made and lent, the budget, the cursor.
+struct Case {
+    made: Made,
+    budget: u32,
+    cursor: Cursor,
 }
 
-// The run on the machine, of which a part may be lent too short.
+// The run on the machine, lent at the lengths of the case.
 fn run_lent(
     case: Case,
     control: Control,
@@ -47,15 +39,15 @@ fn run_lent(
     s1: &[u32],
     s2: &[u32],
 ) -> Ran {
-    let short = case.short;
+    let n = lent_lengths(case.made);
     let cursor = case.cursor;
-    let n1 = lent_length(short, 1, settings.len());
-    let n2 = lent_length(short, 2, gprs.len());
-    let n3 = lent_length(short, 3, config.len());
-    let n4 = lent_length(short, 4, dest.len());
-    let n5 = lent_length(short, 5, marks.len());
-    let n6 = lent_length(short, 6, src_a.len());
-    let n7 = lent_length(short, 7, src_b.len());
+    let n1 = least(n.settings, settings.len());
+    let n2 = least(n.gprs, gprs.len());
+    let n3 = least(n.config, config.len());
+    let n4 = least(n.dest, dest.len());
+    let n5 = least(n.marks, marks.len());
+    let n6 = least(n.src_a, src_a.len());
+    let n7 = least(n.src_b, src_b.len());
     run::run(
         control,
         &mut settings[..n1],
@@ -73,7 +65,7 @@ fn run_lent(
     )
 }
 
-// The run and the line. The digest is always of the whole machine.
+// The run and the line. The digest is of all that there is of each part.
 fn run_told(
     case: Case,
     control: Control,
@@ -107,40 +99,19 @@ fn run_told(
     write_line(ran, sum);
 }
 
-// The control part of the case's machine.
-fn control_of(case: Case) -> Control {
-    let drawn = draw_control(case.seed);
-    set_control(drawn.control, case.set)
-}
-
-// The run on the machine of the case. Its control part is made first: a proof writes out the type of a value that is not there
-// yet, at every step.
+// The run on the machine of the case.
 fn run_machine(case: Case, s0: &[u32], s1: &[u32], s2: &[u32]) {
-    let control = control_of(case);
-    let which = case.set % 8;
-    let value = case.set / 8;
-    let mut settings = [0; SETTINGS];
-    let mut gprs = [0; GPRS];
-    let mut config = [0; CONFIG_WORDS];
-    let mut dest = [0; DEST_CELLS];
-    let mut marks = [false; DEST_ROWS];
-    let mut src_a = [0; SOURCE_CELLS];
-    let mut src_b = [0; SOURCE_CELLS];
-    fill_machine(
-        case.seed,
-        &mut settings,
-        &mut gprs,
-        &mut config,
-        &mut dest,
-        &mut marks,
-        &mut src_a,
-        &mut src_b,
-    );
-    set_cell(&mut src_a, 2047, which == 6, value);
-    set_cell(&mut src_b, 0, which == 7, value);
+    let p = make(case.made);
+    let mut settings = p.settings;
+    let mut gprs = p.gprs;
+    let mut config = p.config;
+    let dest = p.dest;
+    let mut marks = p.marks;
+    let mut src_a = p.src_a;
+    let mut src_b = p.src_b;
     run_told(
         case,
-        control,
+        p.control,
         &mut settings,
         &mut gprs,
         &mut config,
@@ -154,31 +125,29 @@ fn run_machine(case: Case, s0: &[u32], s1: &[u32], s2: &[u32]) {
     );
 }
 
-// What a case at `at` says beside its streams. What is lent is the number of the part that is too short + 8 x its length. Internal: it is there.
+// What a case at `at` says beside its streams. Internal: it is there.
 fn case_at(input: &[u8], at: usize) -> Case
-    requires { ⌜ at + 32 ≤ length (now input) ⌝ }
+    requires { ⌜ at + 44 ≤ length (now input) ⌝ }
 {
-    let seed = word_at(input, at);
-    let lent = word_at(input, at + 4);
-    let short = Short {
-        part: lent % 8,
-        length: (lent / 8) as usize,
-    };
-    let set = word_at(input, at + 8);
-    let budget = word_at(input, at + 12);
-    let cursor = cursor_at(input, at + 16);
+    let made = read_made(input, at);
+    let budget = word_at(input, at + MADE_BYTES);
+    let cursor = cursor_at(input, at + MADE_BYTES + 4);
     Case {
-        seed,
-        short,
-        set,
+        made,
         budget,
         cursor,
     }
 }
 
 // The case that starts at `at`; answers where the next one starts. Internal: it is there up to its streams.
-pub fn run_case(input: &[u8], at: usize, s0: &mut [u32], s1: &mut [u32], s2: &mut [u32]) -> usize
-    requires { ⌜ at + 32 ≤ length (now input) ⌝ }
+pub(crate) fn run_case(
+    input: &[u8],
+    at: usize,
+    s0: &mut [u32],
+    s1: &mut [u32],
+    s2: &mut [u32],
+) -> usize
+    requires { ⌜ at + 44 ≤ length (now input) ⌝ }
     ensures { λ r. ⌜ (at < r) × (r ≤ length (now (input .entry))) ⌝ }
 {
     let case = case_at(input, at);

@@ -4,26 +4,26 @@ ghost use lib.ListN.{length};
 use turns::cursor::Cursor;
 
 // A case up to its streams.
-pub const CASE_BYTES: usize = 32;
+pub(crate) const CASE_BYTES: usize = 44;
 
 // A stream up to its words.
 const STREAM_BYTES: usize = 12;
 
 // What a stream took: where the input goes on, and how many words it has.
-pub struct Taken {
-    pub end: usize,
-    pub words: usize,
+pub(crate) struct Taken {
+    pub(crate) end: usize,
+    pub(crate) words: usize,
 }
 
 // The number of 4 bytes at `at`. Internal: it is there.
-pub fn word_at(input: &[u8], at: usize) -> u32
+pub(crate) fn word_at(input: &[u8], at: usize) -> u32
     requires { ⌜ at + 4 ≤ length (now input) ⌝ }
 {
     format::number::read(input, at, 4)
 }
 
 // The three positions and the next thread. Internal: they are there.
-pub fn cursor_at(input: &[u8], at: usize) -> Cursor
+pub(crate) fn cursor_at(input: &[u8], at: usize) -> Cursor
     requires { ⌜ at + 16 ≤ length (now input) ⌝ }
 {
     let at0 = word_at(input, at) as usize;
@@ -73,7 +73,7 @@ fn fill_stream(words: &[u8], back: u32, dst: &mut [u32]) {
 }
 
 // The stream at `at`: how many words are given, the number of the one that follows the last, the stream's length, the words.
-pub fn take_stream(input: &[u8], at: usize, dst: &mut [u32]) -> Taken
+pub(crate) fn take_stream(input: &[u8], at: usize, dst: &mut [u32]) -> Taken
     requires { ⌜ at ≤ length (now input) ⌝ }
     ensures { λ r. ⌜ (at ≤ r .end) × (r .end ≤ length (now (input .entry))) × (r .words ≤ length (now (dst .entry))) ⌝ }
 {

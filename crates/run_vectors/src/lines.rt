@@ -32,7 +32,7 @@ fn write_cursor(c: Cursor) {
 }
 
 // `END turns N at N N N next N machine D`.
-pub fn write_line(ran: Ran, digest: u32) {
+pub(crate) fn write_line(ran: Ran, digest: u32) {
     let answer = ran.answer;
     let cursor = ran.cursor;
     write_ending(answer);

@@ -1,10 +1,9 @@
-// Runs streams on machines of a seed and prints what came of each run, with the machine's digest after it, for comparison with
-// the oracle. Standard input, little-endian words of 4 bytes, is cases, each with a machine of its own: a seed, what is lent
-// too short (cases.rt), what is wrong in the machine (control.rt), a budget, the three positions, the next thread, and three streams
-// (input.rt). A line is `END turns N at N N N next N machine D`: how the run ended, with document 01's number where it was
-// refused (`rejected` is a refused call), its turns, the cursor and the digest.
+// Runs streams on machines made for it and prints what came of each run, with the machine's digest after it, for comparison with
+// the oracle. Standard input, little-endian words of 4 bytes, is cases, each with a machine of its own: how it is made and lent
+// (6 words, `lent_machines`), a budget, the three positions, the next thread, and three streams (input.rt). A line is
+// `END turns N at N N N next N machine D`: how the run ended, with document 01's number where it was refused (`rejected` is a
+// refused call), its turns, the cursor and the digest.
 mod cases;
-mod control;
 mod input;
 mod lines;
 

@@ -1,6 +1,5 @@
 pub mod Draws
 pub mod Controls
-pub mod Limits
 pub mod Whole
 pub mod Adler
 pub mod Digest

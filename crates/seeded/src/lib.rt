@@ -3,6 +3,5 @@ pub mod controls;
 pub mod digest;
 pub mod draws;
 pub mod fills;
-pub mod limits;
 pub mod sums;
 pub mod whole;

@@ -1,8 +1,11 @@
 // Where the parts of the input end.
 ghost use Prim.Native.Nat.{_≤_};
 
+// A group up to its cases.
+pub(crate) const HEADER_BYTES: usize = 28;
+
 // Where the cases of a group end that says it has `count` of them: at the last whole case that is there.
-pub fn cases_end(from: usize, count: u32, len: usize) -> usize
+pub(crate) fn cases_end(from: usize, count: u32, len: usize) -> usize
     requires { ⌜ from ≤ len ⌝ }
     ensures { λ r. ⌜ (from ≤ r) × (r ≤ len) ⌝ }
 {

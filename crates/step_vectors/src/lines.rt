@@ -23,7 +23,7 @@ fn write_outcome(o: Outcome) {
 }
 
 // `p DIGEST`, `s N DIGEST` or `r N DIGEST`.
-pub fn write_line(o: Outcome, digest: u32) {
+pub(crate) fn write_line(o: Outcome, digest: u32) {
     write_outcome(o);
     write_number(b" ", digest);
     io::write_all(STDOUT_FILENO, b"\n");

@@ -1,13 +1,14 @@
-// Runs words on machines of a seed and prints what came of each, with the machine's digest after it, for comparison with the
-// oracle. Standard input, little-endian, is groups of a seed (4 bytes), a count (4) and that many cases of a thread (4) and a
-// word (4). Within a group the machine goes on from case to case. A line is `p D`, `s N D` or `r N D`: passed, stalled or
-// refused with document 01's number, and the digest.
+// Runs words on machines made for it and prints what came of each, with the machine's digest after it, for comparison with the
+// oracle. Standard input, in little-endian words of 4 bytes, is groups: how the machine is made and lent (6 words,
+// `lent_machines`), a count, and that many cases of a thread and a word. Within a group the machine goes on from case to case.
+// A line is `p D`, `s N D` or `r N D`: passed, stalled or refused with document 01's number, and the digest.
 mod cases;
 mod input;
 mod lines;
 
 ghost use mathlib.Core.Path.{_≡_};
 ghost use lib.ListN.{length};
+use crate::input::HEADER_BYTES;
 use libc::STDIN_FILENO;
 
 const INPUT_MOST: usize = 262144;
@@ -15,7 +16,7 @@ const INPUT_MOST: usize = 262144;
 // The groups, one after the other, up to the input's end or a header that is cut.
 fn run_groups(input: &[u8]) {
     let mut at = 0;
-    while 8 <= input.len() - at {
+    while HEADER_BYTES <= input.len() - at {
         at = cases::run_group(input, at);
     }
 }

@@ -13,6 +13,7 @@ save-made-spec =
     (tie.spec
     (λ c κs. search needs)
     (λ c κs. search needs)
+    (λ c κs. search needs)
     (λ c. search needs)
     slice-aggregate-save
     (λ c κs. search needs)

@@ -7,12 +7,12 @@ use Rattle.step_vectors.proofs.cases.run_cases.Statement.{statement}
 use Rattle.step_vectors.proofs.cases.run_cases.Tie as tie
 
 abbrev Inv-loop : tie.InvT-loop
-Inv-loop settings₀ gprs₀ config₀ dest marks₀ src-a₀ src-b₀ short cases c₀ at₀ settings gprs config marks src-a src-b c at =
+Inv-loop settings₀ gprs₀ config₀ dest marks₀ src-a₀ src-b₀ n cases c₀ at₀ settings gprs config marks src-a src-b c at =
     (at ≤ length cases) × (length settings ≡ length settings₀) × (length gprs ≡ length gprs₀) × (length config ≡ length config₀)
     × (length marks ≡ length marks₀) × (length src-a ≡ length src-a₀) × (length src-b ≡ length src-b₀)
 
 abbrev μ-loop : tie.MeasureT-loop
-μ-loop settings₀ gprs₀ config₀ dest marks₀ src-a₀ src-b₀ short cases c₀ at₀ settings gprs config marks src-a src-b c at = length cases - at
+μ-loop settings₀ gprs₀ config₀ dest marks₀ src-a₀ src-b₀ n cases c₀ at₀ settings gprs config marks src-a src-b c at = length cases - at
 
 add-read : tie.Need-add-read Inv-loop μ-loop
 add-read c = omega (arith, c .before .loop-test .taken, c .before .before .loop .inv .0, c .before .before .before .before .before .before .before .before .before .before .before .good)

@@ -1,0 +1,4 @@
+pub mod Number
+pub mod Made
+pub mod Lent
+pub mod Parts
