@@ -36,7 +36,7 @@ fn least(a: u32, b: u32) -> u32
 // The word that three draws make: its kind, and its high and low half.
 fn make_word(mix: Mix, x: u32) -> u32 {
     let kind = draw(x) as u32 % 16;
-    let any = word(next_state(x));
+    let any = word(next_state(x), u32::MAX);
     if kind < mix.mops0 {
         let count = least(any / 65536 % 128, mix.counts % 128);
         return 0x0100_0000 + count * 65536 + any % 65536;

@@ -18,7 +18,7 @@ use Rattle.image.specs.declared.Saved.the-variants.{Written, NotSaved}
 use Rattle.image.specs.declared.LoadAnswer.{LoadAnswer}
 use Rattle.image.specs.declared.LoadAnswer.the-variants.{Taken, NotLoaded}
 use Rattle.layout.specs.Image.{image, imageSize}
-use Rattle.image.specs.Calls.{Saving, savedNumbers, saving, saveOf, Loading, loadNumbers, loading, loadAnswer, machineAfter, loadOf}
+use Rattle.image.specs.Calls.{Saving, savedNumbers, saving, saveOf, Loading, loadNumbers, loading, loadAnswer, machineLoaded, loadOf}
 
 -- what a test by a call's result says of the test that the result is
 pub says-no : (r : Bool) {b : Bool} → r ≡ b → not r ≡ true → b ≡ false
@@ -90,11 +90,11 @@ module _ (fits : Bool) (bs : List ℕ) where
 module _ (bs : List ℕ) (m : Machine) where
   pub load-refused : {a : LoadAnswer} {r : Refusal} → a ≡ loadAnswer (sized m) bs → a ≡ NotLoaded r → loading a m ≡ loadOf bs m
   unfolding loadOf
-  load-refused {a} {r} e n = ap₂ loading e (sym (ap (λ (x : LoadAnswer). machineAfter x bs m) (sym e ∙ n)))
+  load-refused {a} {r} e n = ap₂ loading e (sym (ap (λ (x : LoadAnswer). machineLoaded x bs m) (sym e ∙ n)))
 
   pub load-taken : {a : LoadAnswer} {k : Machine} → a ≡ loadAnswer (sized m) bs → a ≡ Taken → k ≡ image .get bs → loading a k ≡ loadOf bs m
   unfolding loadOf
-  load-taken {a} {k} e n g = ap₂ loading e (g ∙ sym (ap (λ (x : LoadAnswer). machineAfter x bs m) (sym e ∙ n)))
+  load-taken {a} {k} e n g = ap₂ loading e (g ∙ sym (ap (λ (x : LoadAnswer). machineLoaded x bs m) (sym e ∙ n)))
 
 -- ---- equal calls have equal numbers
 pub save-numbered : (x y : Saving) → x ≡ y → (x ≡ y) × (savedNumbers (x .answer) ≡ savedNumbers (y .answer))

@@ -16,7 +16,7 @@ use Rattle.format.proofs.Lawful.{whole-accepts, whole-get, whole-put, whole-ok}
 use Rattle.image.specs.declared.Saved.the-variants.{Written}
 use Rattle.image.specs.declared.LoadAnswer.the-variants.{Taken}
 use Rattle.layout.specs.Image.{image, imageSize}
-use Rattle.image.specs.Calls.{saving, saveOf, loading, machineAfter, loadOf}
+use Rattle.image.specs.Calls.{saving, saveOf, loading, machineLoaded, loadOf}
 use Rattle.image.specs.Promises.{RoundTrips, ImageFacts}
 use Rattle.layout.proofs.MarkLaws.{mark-at}
 use Rattle.layout.proofs.ImageLaws.{image-lawful, formed-ok, ok-formed}
@@ -47,7 +47,7 @@ loads-back m old out h s room =
 -- what is known where an image is taken: the bytes are accepted, and their machine comes back
 taken : (bs : List ℕ) (old : Machine) → loadOf bs old .answer ≡ Taken → (accepts image bs ≡ true) × (loadOf bs old .machine ≡ image .get bs)
 unfolding loadOf
-taken bs old e = (taken-means (sized old) bs e .1, ap (λ a. machineAfter a bs old) e)
+taken bs old e = (taken-means (sized old) bs e .1, ap (λ a. machineLoaded a bs old) e)
 
 formed-after : (bs : List ℕ) (old : Machine) → Bytes bs → loadOf bs old .answer ≡ Taken → wellFormed (loadOf bs old .machine) ≡ true
 formed-after bs old b e =

@@ -56,9 +56,9 @@ unfoldable pub loadAnswer : Bool → List ℕ → LoadAnswer
 loadAnswer fits bs = cond fits (cond (accepts image bs) Taken (NotLoaded (BadImage (image .good bs)))) (NotLoaded BadLength)
 
 -- refused, the machine is as it was
-abbrev pub machineAfter : LoadAnswer → List ℕ → Machine → Machine
-machineAfter Taken bs m = image .get bs
-machineAfter (NotLoaded r) bs m = m
+abbrev pub machineLoaded : LoadAnswer → List ℕ → Machine → Machine
+machineLoaded Taken bs m = image .get bs
+machineLoaded (NotLoaded r) bs m = m
 
 unfoldable pub loadOf : List ℕ → Machine → Loading
-loadOf bs m = let a = loadAnswer (sized m) bs in loading a (machineAfter a bs m)
+loadOf bs m = let a = loadAnswer (sized m) bs in loading a (machineLoaded a bs m)

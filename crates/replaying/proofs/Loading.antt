@@ -17,7 +17,7 @@ use Rattle.format.specs.Format.{accepts}
 use Rattle.image.specs.declared.LoadAnswer.{LoadAnswer}
 use Rattle.image.specs.declared.LoadAnswer.the-variants.{Taken, NotLoaded}
 use Rattle.layout.specs.Image.{image, imageSize}
-use Rattle.image.specs.Calls.{Loading, loading, loadAnswer, machineAfter, loadOf}
+use Rattle.image.specs.Calls.{Loading, loading, loadAnswer, machineLoaded, loadOf}
 use Rattle.image.proofs.Answers.{taken-means}
 use Rattle.image.proofs.Trips.{round-trips}
 use Rattle.turns.specs.Streams.{Streams}
@@ -87,7 +87,7 @@ module _ (came tail : List ℕ) (a : LoadAnswer) (m : Machine) (e : loading a m 
 
   taken : a ≡ Taken → m ≡ image .get came
   unfolding loadOf
-  taken h = ap (λ (x : Loading). x .machine) e ∙ ap (λ (x : LoadAnswer). machineAfter x came freshMachine) (sym answered ∙ h)
+  taken h = ap (λ (x : Loading). x .machine) e ∙ ap (λ (x : LoadAnswer). machineLoaded x came freshMachine) (sym answered ∙ h)
 
   pub parts-taken : a ≡ Taken → recordsOf came tail m ≡ partsOf came tail
   unfolding partsOf imageFine imageMachine

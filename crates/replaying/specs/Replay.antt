@@ -3,9 +3,9 @@ use Prim.Native.Nat.{ℕ, _+_, _≤_}
 use mathlib.Core.Path.{_≡_}
 use mathlib.Core.Bool.{Bool, cond}
 use mathlib.Core.List.{List, _++_}
-use lib.ListN.{length, take, drop}
+use lib.ListN.{length, take, drop, getD}
 use Rattle.machine.specs.declared.refusal.Refusal.{Refusal}
-use Rattle.machine.specs.declared.refusal.Refusal.the-variants.{BadThread, BadWord, BadField, BadLength, BadCursor, BadBudget, BadRounds, ShortOutput, BadImage, Malformed, BadPlace, WrongOwner}
+use Rattle.machine.specs.Numbers.{valuesOf}
 use Rattle.machine.specs.Machine.{Machine}
 use Rattle.format.specs.Format.{accepts}
 use Rattle.layout.specs.Image.{image, imageSize}
@@ -44,20 +44,9 @@ byRecords came tail m (Faulty n) = numberLine badRecordWord (imageSize + n)
 unfoldable pub recordsOf : List ℕ → List ℕ → Machine → List ℕ
 recordsOf came tail m = byRecords came tail m (replayScriptOf tail)
 
--- the offset in refusal 9
+-- the offset that comes back with refusal 9
 abbrev pub offsetOf : Refusal → ℕ
-offsetOf BadThread = 0
-offsetOf BadWord = 0
-offsetOf BadField = 0
-offsetOf BadLength = 0
-offsetOf BadCursor = 0
-offsetOf BadBudget = 0
-offsetOf BadRounds = 0
-offsetOf ShortOutput = 0
-offsetOf (BadImage n) = n
-offsetOf Malformed = 0
-offsetOf BadPlace = 0
-offsetOf WrongOwner = 0
+offsetOf r = getD (valuesOf r) 0 0
 
 -- a bad image prints only `bad image at N`
 unfoldable pub partsOf : List ℕ → List ℕ → List ℕ
