@@ -9,7 +9,6 @@ ghost use Prim.Native.Nat.{ℕ, _<_};
 ghost use mathlib.Core.List.{List};
 ghost use lib.ListN.{length};
 ghost use Rattle.word_rules.specs.ConfigWords.{wrCfgOf, rdCfgOf, setC16Of, rmwCibOf};
-ghost use Rattle.word_rules.specs.Units.{configRows};
 ghost use Rattle.effects.specs.Offered.{ConfigOffered};
 use crate::moves::read_config;
 use crate::moves::rmw_byte;
@@ -31,8 +30,8 @@ use machine::refusal::Outcome;
 use offers::stopped;
 use offers::verdict;
 
-// WRCFG.
-fn wr_cfg(
+// WRCFG. Internal, as all below: the stores have their sizes, and the thread is in range.
+pub fn wr_cfg(
     settings: &[u16],
     gprs: &[u32],
     config: &mut [u32],
@@ -53,7 +52,7 @@ fn wr_cfg(
 }
 
 // RDCFG.
-fn rd_cfg(
+pub fn rd_cfg(
     settings: &[u16],
     gprs: &mut [u32],
     config: &[u32],
@@ -74,7 +73,7 @@ fn rd_cfg(
 }
 
 // SETC16.
-fn set_c16(settings: &mut [u16], t: usize, word: u32, stalls: bool) -> Outcome
+pub fn set_c16(settings: &mut [u16], t: usize, word: u32, stalls: bool) -> Outcome
     requires { ⌜ (length (now settings) ≡ 192) × (t < 3) ⌝ }
     ensures { λ r. ⌜ ((gprs config : List ℕ) → ConfigOffered stalls t (setC16Of word) (now (settings .entry)) gprs config r (now (settings .exit)) gprs config) ⌝ }
 {
@@ -86,7 +85,7 @@ fn set_c16(settings: &mut [u16], t: usize, word: u32, stalls: bool) -> Outcome
 }
 
 // RMWCIB0 to RMWCIB3.
-fn rmw_cib(
+pub fn rmw_cib(
     settings: &[u16],
     config: &mut [u32],
     t: usize,
@@ -110,29 +109,4 @@ fn rmw_cib(
         byte_index(word),
     );
     Outcome::Passed
-}
-
-// A word with an opcode of the config unit, offered by thread t. Internal: the stores have their sizes, and the thread is in range.
-pub fn config_word(
-    settings: &mut [u16],
-    gprs: &mut [u32],
-    config: &mut [u32],
-    t: usize,
-    op: u32,
-    word: u32,
-    stalls: bool,
-) -> Outcome
-    requires { ⌜ (length (now settings) ≡ 192) × (length (now gprs) ≡ 192) × (length (now config) ≡ 512) × (t < 3) ⌝ }
-    ensures { λ r. ⌜ ConfigOffered stalls t (configRows op word) (now (settings .entry)) (now (gprs .entry)) (now (config .entry)) r (now (settings .exit)) (now (gprs .exit)) (now (config .exit)) ⌝ }
-{
-    match op {
-        0xB0 => wr_cfg(settings, gprs, config, t, word, stalls),
-        0xB1 => rd_cfg(settings, gprs, config, t, word, stalls),
-        0xB2 => set_c16(settings, t, word, stalls),
-        0xB3 => rmw_cib(settings, config, t, word, 0, stalls),
-        0xB4 => rmw_cib(settings, config, t, word, 1, stalls),
-        0xB5 => rmw_cib(settings, config, t, word, 2, stalls),
-        0xB6 => rmw_cib(settings, config, t, word, 3, stalls),
-        _ => verdict(true, false, stalls),
-    }
 }

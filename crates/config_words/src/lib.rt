@@ -5,7 +5,7 @@ ghost use lib.Dec.{ltb};
 ghost use Rattle.bits.specs.Field.{field, flag};
 ghost use Rattle.machine.specs.Units.{gpr};
 ghost use Rattle.word_rules.specs.ConfigWords.{wrCfgOf, rdCfgOf, setC16Of, rmwCibOf};
-ghost use Rattle.word_rules.specs.Units.{configRows};
+ghost use Rattle.word_rules.specs.Units.{badWord, configRows};
 use machine::refusal::Refusal;
 use machine::units::GprNumber;
 use word_rules::instruction::ConfigWord;
@@ -138,7 +138,7 @@ fn rmw_cib(word: u32, byte: u8) -> Decoded
 
 // What a word with an opcode of the config unit says; any other opcode is 2.
 pub fn decode_config(op: u32, word: u32) -> Decoded
-    ensures { λ r. ⌜ r ≡ configRows op word ⌝ }
+    ensures { λ r. ⌜ r ≡ configRows op word badWord ⌝ }
 {
     match op {
         0xB0 => wr_cfg(word),

@@ -11,14 +11,14 @@ use Rattle.offers.proofs.Laws.{stopped-outcome, going-outcome, stopped-part, go
 use Rattle.gate.specs.Gate.{wordGate}
 use Rattle.control.specs.declared.Stepped.{Stepped}
 use Rattle.control.specs.After.{wordAfter}
-use Rattle.control.specs.Offered.{came, droppedIf, controlOffer}
+use Rattle.control.specs.Offered.{came, droppedIf, controlOffer, always}
 
 module _ (a b s drops : Bool) (c : Control) (t : ℕ) (i : Instruction) where
   came-alike : (o p : Outcome) (x y : Control) → o ≡ p → x ≡ y → came o x ≡ came p y
   came-alike o p x y e h = rw (e, h)
 
   pub control-stopped : (o : Outcome) → (a || (b || s)) ≡ true → ((j : Instruction) → o ≡ waitOutcome s (decodesUnless a b j)) →
-      came o c ≡ controlOffer s drops c t (decodesUnless a b i)
+      came o c ≡ controlOffer (always s) drops c t (decodesUnless a b i)
   unfolding controlOffer
   control-stopped o h e =
       came-alike _ _ _ _ (e i ∙ stopped-outcome i (wordGate c t) a b s h)
@@ -26,7 +26,7 @@ module _ (a b s drops : Bool) (c : Control) (t : ℕ) (i : Instruction) where
 
   -- left to its own gate
   pub control-going : (a || (b || s)) ≡ false →
-      came (gateOutcome (wordGate c t i)) (ifOpen (wordGate c t i) (wordAfter (droppedIf c t drops) t i) c) ≡ controlOffer s drops c t (decodesUnless a b i)
+      came (gateOutcome (wordGate c t i)) (ifOpen (wordGate c t i) (wordAfter (droppedIf c t drops) t i) c) ≡ controlOffer (always s) drops c t (decodesUnless a b i)
   unfolding controlOffer
   control-going h =
       came-alike _ _ _ _ (going-outcome i (wordGate c t) a b s h)

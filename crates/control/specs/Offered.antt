@@ -23,11 +23,15 @@ abbrev pub droppedOn : Outcome → Control → ℕ → Bool → Control
 droppedOn o c t drops = droppedIf c t (hasPassed o && drops)
 
 -- the word's gate, where the test says whether its thread's wait stalls it
-abbrev pub controlGate : Bool → Control → ℕ → Instruction → Gate
-controlGate stalls c t i = waitFirst stalls (wordGate c t i)
+abbrev pub controlGate : (Instruction → Bool) → Control → ℕ → Instruction → Gate
+controlGate stalls c t i = waitFirst (stalls i) (wordGate c t i)
 
 -- a word offered by thread t, where the tests say whether its wait stalls the word, and whether it is lifted
-unfoldable pub controlOffer : Bool → Bool → Control → ℕ → Decoded → Stepped
+unfoldable pub controlOffer : (Instruction → Bool) → Bool → Control → ℕ → Decoded → Stepped
 controlOffer stalls drops c t d =
     came (outcomeOf (controlGate stalls c t) d)
     (partOf (controlGate stalls c t) d (λ i. wordAfter (droppedIf c t drops) t i) c)
+
+-- the same answer for every word
+abbrev pub always : Bool → Instruction → Bool
+always stalls i = stalls

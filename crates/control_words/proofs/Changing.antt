@@ -19,7 +19,9 @@ use Rattle.semaphores.specs.declared.SemaphoreChange.the-variants.{Init, Up, Do
 use Rattle.offers.specs.Offer.{Open, gateOutcome, ifOpen, waitOutcome}
 use Rattle.gate.specs.Gate.{wordGate}
 use Rattle.control.specs.After.{changeSemaphores, wordAfter}
-use Rattle.control.specs.Offered.{came, droppedIf, controlOffer}
+use Rattle.bits.proofs.Choices.{cond-both}
+use Rattle.word_rules.proofs.Only.{Only, IsSync}
+use Rattle.control.specs.Offered.{came, droppedIf, controlOffer, always}
 use Rattle.control.proofs.Offering.{control-stopped, control-going}
 use Rattle.control_words.specs.Semaphores.{isOther, changeOf, changeRows}
 
@@ -56,11 +58,15 @@ done-after d c t op w = go (eqb op 0xA3) (eqb op 0xA4)
 
 module _ (x s drops : Bool) (c : Control) (t op w : ℕ) (e : x ≡ isOther op) where
   pub change-stopped : (o : Outcome) → (x || (false || s)) ≡ true → ((j : Instruction) → o ≡ waitOutcome s (decodesUnless x false j)) →
-      came o c ≡ controlOffer s drops c t (changeRows op w)
+      came o c ≡ controlOffer (always s) drops c t (changeRows op w)
   change-stopped o h p = rw (← rows-word op w, ← e) (control-stopped x false s drops c t (Sync (wordOf op w)) o h p)
 
   pub change-going : (x || (false || s)) ≡ false →
-      came Passed (changeSemaphores (droppedIf c t drops) (maskOf w) (changeOf op w)) ≡ controlOffer s drops c t (changeRows op w)
+      came Passed (changeSemaphores (droppedIf c t drops) (maskOf w) (changeOf op w)) ≡ controlOffer (always s) drops c t (changeRows op w)
   change-going h =
       done-after (droppedIf c t drops) c t op w
       ∙ rw (← rows-word op w, ← e) (control-going x false s drops c t (Sync (wordOf op w)) h)
+
+pub changes-only : (op w : ℕ) → Only IsSync (changeRows op w)
+changes-only op w =
+    cond-both (Only IsSync) (eqb op 0xA3) tt (cond-both (Only IsSync) (eqb op 0xA4) tt (cond-both (Only IsSync) (eqb op 0xA5) tt tt))

@@ -4,7 +4,7 @@ ghost use mathlib.Core.Bool.{true};
 ghost use Prim.Native.Nat.{_<_};
 ghost use Rattle.machine.specs.Formed.{controlFormed};
 ghost use Rattle.word_rules.specs.MatrixWords.{clearDValidOf, setDValidOf};
-ghost use Rattle.control.specs.Offered.{controlOffer};
+ghost use Rattle.control.specs.Offered.{controlOffer, always};
 use control::Stepped;
 use control::after::drop_if;
 use machine::control::Control;
@@ -18,9 +18,9 @@ use matrix_words::sets_b;
 use offers::verdict;
 
 // SETDVALID. Internal: the control part and the thread are in range.
-pub fn set_dvalid(c: Control, t: usize, word: u32, stalls: bool, drops: bool) -> Stepped
+pub(crate) fn set_dvalid(c: Control, t: usize, word: u32, stalls: bool, drops: bool) -> Stepped
     requires { ⌜ (controlFormed c ≡ true) × (t < 3) ⌝ }
-    ensures { λ r. ⌜ r ≡ controlOffer stalls drops c t (setDValidOf word) ⌝ }
+    ensures { λ r. ⌜ r ≡ controlOffer (always stalls) drops c t (setDValidOf word) ⌝ }
 {
     if stalls {
         return Stepped {
@@ -36,9 +36,9 @@ pub fn set_dvalid(c: Control, t: usize, word: u32, stalls: bool, drops: bool) ->
 }
 
 // CLEARDVALID. Internal: the control part and the thread are in range.
-pub fn clear_dvalid(c: Control, t: usize, word: u32, stalls: bool, drops: bool) -> Stepped
+pub(crate) fn clear_dvalid(c: Control, t: usize, word: u32, stalls: bool, drops: bool) -> Stepped
     requires { ⌜ (controlFormed c ≡ true) × (t < 3) ⌝ }
-    ensures { λ r. ⌜ r ≡ controlOffer stalls drops c t (clearDValidOf word) ⌝ }
+    ensures { λ r. ⌜ r ≡ controlOffer (always stalls) drops c t (clearDValidOf word) ⌝ }
 {
     if stalls {
         return Stepped {

@@ -8,3 +8,4 @@ pub mod Lengths
 pub mod Ranges
 pub mod Keeps
 pub mod Offering
+pub mod OnStores

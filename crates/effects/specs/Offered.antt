@@ -5,13 +5,14 @@ use mathlib.Core.Bool.{Bool}
 use mathlib.Core.List.{List}
 use Rattle.machine.specs.declared.refusal.Outcome.{Outcome}
 use Rattle.word_rules.specs.declared.instruction.Decoded.{Decoded}
-use Rattle.offers.specs.Offer.{waitOutcome, waitPart, ownerOutcome, ownerPart}
+use Rattle.machine.specs.Machine.{Stores}
+use Rattle.offers.specs.Offer.{outcomeOf, partOf, waitOutcome, waitPart, ownerOutcome, ownerPart, storeGate}
 use Rattle.effects.specs.Settings.{bankOf}
 use Rattle.effects.specs.Gprs.{gprsAfter}
 use Rattle.effects.specs.Config.{configAfter}
 use Rattle.effects.specs.Marks.{marksAfter}
 use Rattle.effects.specs.Sources.{srcAAfter, srcBAfter}
-use Rattle.effects.specs.After.{settingsAfter}
+use Rattle.effects.specs.After.{settingsAfter, storesAfter}
 
 -- a word of the scalar unit, offered by thread t: the GPRs after it, whatever Config holds
 pub record GprsOffered (stalls : Bool) (t : ℕ) (d : Decoded) (before : List ℕ) (o : Outcome) (after : List ℕ) : Type 0 where
@@ -32,3 +33,10 @@ pub record MatrixOffered (stalls owned : Bool) (bank bankA bankB : ℕ) (d : Dec
   pub marks : m' ≡ ownerPart stalls owned d (λ i. marksAfter i bank config m) m
   pub srcA : a' ≡ ownerPart stalls owned d (λ i. srcAAfter i bankA bankB b a) a
   pub srcB : b' ≡ ownerPart stalls owned d (λ i. srcBAfter i bankB b) b
+
+-- a word that leaves the control part alone, offered by thread t, by the block bits that its wait stalls now, whether Matrix owns SrcB's
+-- bank at the matrix pointer, and the banks at the matrix pointers: the settings and the stores after it
+pub record StoresOffered (blocks : ℕ) (owned : Bool) (t bankA bankB : ℕ) (d : Decoded) (s : List ℕ) (k : Stores) (o : Outcome) (s' : List ℕ) (k' : Stores) : Type 0 where
+  pub outcome : o ≡ outcomeOf (storeGate blocks owned) d
+  pub settings : s' ≡ partOf (storeGate blocks owned) d (λ i. settingsAfter i t s) s
+  pub kept : k' ≡ partOf (storeGate blocks owned) d (λ i. storesAfter i t bankA bankB s k) k

@@ -1,9 +1,8 @@
 -- Whether a word may pass now. These definitions are given the control part, the thread and the instruction, and no store.
 use Prim.Native.Nat.{ℕ, _+_}
-use mathlib.Core.Bool.{Bool, false, cond, _&&_, _||_}
+use mathlib.Core.Bool.{Bool, cond, _&&_, _||_}
 use lib.Dec.{eqb}
 use lib.ListN.{getD}
-use Rattle.bits.specs.Field.{flag}
 use Rattle.machine.specs.declared.control.Wait.{Wait}
 use Rattle.machine.specs.declared.control.Control.{Control}
 use Rattle.machine.specs.declared.refusal.StallCause.the-variants.{MutexHeld}
@@ -12,17 +11,9 @@ use Rattle.word_rules.specs.declared.instruction.Instruction.{Instruction}
 use Rattle.word_rules.specs.declared.instruction.Instruction.the-variants.{Nop, Scalar, Sync, Config, Matrix}
 use Rattle.word_rules.specs.declared.instruction.SyncWord.{SyncWord}
 use Rattle.word_rules.specs.declared.instruction.SyncWord.the-variants.{AtGetM, AtRelM, StallWait, SemInit, SemPost, SemGet, SemWait}
-use Rattle.offers.specs.Offer.{Gate, Open, Closed, waitFirst, matrixGate}
+use Rattle.offers.specs.Offer.{Gate, Open, Closed, waitFirst, matrixGate, namedBy}
 use Rattle.banks.specs.Owners.{matrixOwns}
 use Rattle.gate.specs.Waits.{waitBlock, holdsNow}
-
--- the block mask names the word: none for NOP, else B5, B1, B7, B6
-abbrev pub namedBy : ℕ → Instruction → Bool
-namedBy block Nop = false
-namedBy block (Scalar s) = flag 5 block
-namedBy block (Sync s) = flag 1 block
-namedBy block (Config k) = flag 7 block
-namedBy block (Matrix x) = flag 6 block
 
 -- a wait that isn't lifted stalls words whose block bit it names
 abbrev pub waitStalls : Control → Wait → Instruction → Bool

@@ -2,7 +2,7 @@
 ghost use mathlib.Core.Path.{_≡_};
 ghost use Rattle.bits.specs.Field.{field, flag};
 ghost use Rattle.word_rules.specs.MatrixWords.{hasAddrMod, viewRows, placePast, movB2AOf, zeroAccOf, clearDValidOf, setDValidOf};
-ghost use Rattle.word_rules.specs.Units.{matrixRows};
+ghost use Rattle.word_rules.specs.Units.{badWord, cellRows, bankRows};
 use machine::refusal::Refusal;
 use word_rules::instruction::Decoded;
 use word_rules::instruction::Instruction;
@@ -168,7 +168,7 @@ fn set_dvalid(word: u32) -> Decoded
 
 // What a word with an opcode of the matrix unit says; any other opcode is 2.
 pub fn decode_matrix(op: u32, word: u32) -> Decoded
-    ensures { λ r. ⌜ r ≡ matrixRows op word ⌝ }
+    ensures { λ r. ⌜ r ≡ cellRows op word (bankRows op word badWord) ⌝ }
 {
     match op {
         0x16 => Decoded::Decodes(Instruction::Matrix(MatrixWord::TrnspSrcB)),

@@ -1,5 +1,7 @@
 -- What an offered word comes to, and what it leaves of a part of the machine.
+use Prim.Native.Nat.{ℕ}
 use mathlib.Core.Bool.{Bool, true, false, cond}
+use Rattle.bits.specs.Field.{flag}
 use Rattle.machine.specs.declared.refusal.StallCause.{StallCause}
 use Rattle.machine.specs.declared.refusal.StallCause.the-variants.{WaitHolds, BankNotMatrix}
 use Rattle.machine.specs.declared.refusal.Outcome.{Outcome}
@@ -74,3 +76,15 @@ ownerOutcome stalls owned d = outcomeOf (λ i. waitFirst stalls (ownerGate owned
 
 abbrev pub ownerPart : {A : Type 0} → Bool → Bool → Decoded → (Instruction → A) → A → A
 ownerPart stalls owned d effect old = partOf (λ i. waitFirst stalls (ownerGate owned i)) d effect old
+
+-- the block mask names the word: none for NOP, else B5, B1, B7, B6
+abbrev pub namedBy : ℕ → Instruction → Bool
+namedBy block Nop = false
+namedBy block (Scalar s) = flag 5 block
+namedBy block (Sync s) = flag 1 block
+namedBy block (Config k) = flag 7 block
+namedBy block (Matrix x) = flag 6 block
+
+-- the gate of a word that leaves the control part alone, by the block bits that its thread's wait stalls now
+abbrev pub storeGate : ℕ → Bool → Instruction → Gate
+storeGate blocks owned i = waitFirst (namedBy blocks i) (ownerGate owned i)

@@ -1,11 +1,10 @@
-// The words of the scalar unit, offered: each is refused, stalled by its thread's wait, or writes the thread's own GPRs.
+// The words of the scalar unit but DMANOP, offered: each is refused, stalled by its thread's wait, or writes the thread's own GPRs.
 mod registers;
 
 ghost use Prim.Native.Nat.{_<_};
 ghost use mathlib.Core.Path.{_≡_};
 ghost use lib.ListN.{length};
 ghost use Rattle.word_rules.specs.ScalarWords.{setDmaRegOf, addDmaRegOf, mulDmaRegOf};
-ghost use Rattle.word_rules.specs.Units.{scalarRows};
 ghost use Rattle.effects.specs.Offered.{GprsOffered};
 use crate::registers::write_half;
 use crate::registers::write_product;
@@ -20,8 +19,8 @@ use scalar_words::result;
 use scalar_words::signals;
 use scalar_words::value;
 
-// SETDMAREG.
-fn set_dma_reg(gprs: &mut [u32], t: usize, word: u32, stalls: bool) -> Outcome
+// SETDMAREG. Internal, as all below: the store has its size, and the thread is in range.
+pub fn set_dma_reg(gprs: &mut [u32], t: usize, word: u32, stalls: bool) -> Outcome
     requires { ⌜ (length (now gprs) ≡ 192) × (t < 3) ⌝ }
     ensures { λ r. ⌜ GprsOffered stalls t (setDmaRegOf word) (now (gprs .entry)) r (now (gprs .exit)) ⌝ }
 {
@@ -34,7 +33,7 @@ fn set_dma_reg(gprs: &mut [u32], t: usize, word: u32, stalls: bool) -> Outcome
 }
 
 // ADDDMAREG.
-fn add_dma_reg(gprs: &mut [u32], t: usize, word: u32, stalls: bool) -> Outcome
+pub fn add_dma_reg(gprs: &mut [u32], t: usize, word: u32, stalls: bool) -> Outcome
     requires { ⌜ (length (now gprs) ≡ 192) × (t < 3) ⌝ }
     ensures { λ r. ⌜ GprsOffered stalls t (addDmaRegOf word) (now (gprs .entry)) r (now (gprs .exit)) ⌝ }
 {
@@ -46,7 +45,7 @@ fn add_dma_reg(gprs: &mut [u32], t: usize, word: u32, stalls: bool) -> Outcome
 }
 
 // MULDMAREG.
-fn mul_dma_reg(gprs: &mut [u32], t: usize, word: u32, stalls: bool) -> Outcome
+pub fn mul_dma_reg(gprs: &mut [u32], t: usize, word: u32, stalls: bool) -> Outcome
     requires { ⌜ (length (now gprs) ≡ 192) × (t < 3) ⌝ }
     ensures { λ r. ⌜ GprsOffered stalls t (mulDmaRegOf word) (now (gprs .entry)) r (now (gprs .exit)) ⌝ }
 {
@@ -55,18 +54,4 @@ fn mul_dma_reg(gprs: &mut [u32], t: usize, word: u32, stalls: bool) -> Outcome
     }
     write_product(gprs, t, result(word), operand_a(word), operand_b(word));
     Outcome::Passed
-}
-
-// A word with an opcode of the scalar unit, offered by thread t. Internal: the store has its size, and the thread is in range.
-pub fn scalar_word(gprs: &mut [u32], t: usize, op: u32, word: u32, stalls: bool) -> Outcome
-    requires { ⌜ (length (now gprs) ≡ 192) × (t < 3) ⌝ }
-    ensures { λ r. ⌜ GprsOffered stalls t (scalarRows op word) (now (gprs .entry)) r (now (gprs .exit)) ⌝ }
-{
-    match op {
-        0x45 => set_dma_reg(gprs, t, word, stalls),
-        0x58 => add_dma_reg(gprs, t, word, stalls),
-        0x5A => mul_dma_reg(gprs, t, word, stalls),
-        0x60 => verdict(false, false, stalls),
-        _ => verdict(true, false, stalls),
-    }
 }

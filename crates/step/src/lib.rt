@@ -1,5 +1,5 @@
 // One word on the whole machine.
-mod matrix;
+mod stores;
 
 ghost use mathlib.Core.Path.{_≡_};
 ghost use mathlib.Core.Bool.{true};
@@ -8,23 +8,20 @@ ghost use Rattle.machine.specs.Machine.{machine, stores};
 ghost use Rattle.machine.specs.Numbers.{outcomeNumbers};
 ghost use Rattle.machine.specs.Formed.{sized, controlFormed};
 ghost use Rattle.step_rules.specs.Step.{stepped, offerOf, checkOf, stepOf};
-use crate::matrix::matrix_word;
-use config_unit::config_word;
+use crate::stores::store_word;
+use banks::owners::matrix_owns;
 use control::Stepped;
-use control::after::drop_if;
 use control::finished;
-use control_words::sync_word;
+use control_words::control_word;
 use gate::judge;
 use machine::control::Control;
 use machine::refusal::Outcome;
 use machine::refusal::Refusal;
-use scalar_unit::scalar_word;
 use step_rules::CallCheck;
-use word_rules::unit::WordUnit;
-use word_rules::unit::unit_of;
+use word_rules::unit::on_control;
 
-// A word offered by a thread. Its wait is judged once; then its unit refuses it, stalls it or does it. Internal: the machine is
-// well formed and the thread in range; a run sees to that once.
+// A word offered by a thread. Its wait is judged once; then the word is refused, stalled or done, on the control part or on the
+// stores. Internal: the machine is well formed and the thread in range; a run sees to that once.
 pub fn offer(
     control: Control,
     settings: &mut [u16],
@@ -44,39 +41,29 @@ pub fn offer(
     let blocks = j.blocks;
     let drops = j.drops;
     let op = (word >> 24) % 256;
-    let unit = unit_of(op);
-    match unit {
-        WordUnit::NoUnit => Stepped {
-            outcome: Outcome::Passed,
-            control: drop_if(control, t, drops),
-        },
-        WordUnit::ScalarUnit => {
-            let o = scalar_word(gprs, t, op, word, blocks / 32 % 2 == 1);
-            finished(o, control, t, drops)
-        }
-        WordUnit::SyncUnit => sync_word(control, t, op, word, blocks / 2 % 2 == 1, drops),
-        WordUnit::ConfigUnit => {
-            let o = config_word(settings, gprs, config, t, op, word, blocks / 128 % 2 == 1);
-            finished(o, control, t, drops)
-        }
-        WordUnit::MatrixUnit => matrix_word(
-            control,
-            settings,
-            config,
-            marks,
-            src_a,
-            src_b,
-            t,
-            op,
-            word,
-            blocks / 64 % 2 == 1,
-            drops,
-        ),
-        WordUnit::UnknownUnit => Stepped {
-            outcome: Outcome::Refused(Refusal::BadWord),
-            control,
-        },
+    if on_control(op) {
+        return control_word(control, t, op, word, blocks, drops);
     }
+    let owned = matrix_owns(control, 1);
+    let pointers = control.pointers;
+    let bank_a = pointers[0] as usize;
+    let bank_b = pointers[1] as usize;
+    let o = store_word(
+        settings,
+        gprs,
+        config,
+        marks,
+        src_a,
+        src_b,
+        t,
+        op,
+        word,
+        blocks,
+        owned,
+        bank_a,
+        bank_b,
+    );
+    finished(o, control, t, drops)
 }
 
 // Refusals 4, 10 and 1.

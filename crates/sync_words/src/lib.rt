@@ -3,7 +3,7 @@ ghost use mathlib.Core.Path.{_≡_};
 ghost use lib.Dec.{ltb};
 ghost use Rattle.bits.specs.Field.{field};
 ghost use Rattle.word_rules.specs.SyncWords.{blockOf, maskOf, atGetMOf, atRelMOf, stallWaitOf, semInitOf, semPostOf, semGetOf, semWaitOf};
-ghost use Rattle.word_rules.specs.Units.{syncRows};
+ghost use Rattle.word_rules.specs.Units.{badWord, syncRows};
 use machine::refusal::Refusal;
 use word_rules::instruction::Decoded;
 use word_rules::instruction::Instruction;
@@ -138,7 +138,7 @@ fn sem_wait(word: u32) -> Decoded
 
 // What a word with an opcode of the sync unit says; any other opcode is 2.
 pub fn decode_sync(op: u32, word: u32) -> Decoded
-    ensures { λ r. ⌜ r ≡ syncRows op word ⌝ }
+    ensures { λ r. ⌜ r ≡ syncRows op word badWord ⌝ }
 {
     match op {
         0xA0 => at_get_m(word),

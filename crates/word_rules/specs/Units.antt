@@ -1,6 +1,6 @@
--- The table of the words, cut by unit: the unit of an opcode, and the rows of each unit.
+-- The table of the words, cut by unit, and by whether a word works on the control part.
 use Prim.Native.Nat.{ℕ}
-use mathlib.Core.Bool.{cond}
+use mathlib.Core.Bool.{Bool, true, false, cond}
 use lib.Dec.{eqb}
 use Rattle.machine.specs.declared.refusal.Refusal.the-variants.{BadWord}
 use Rattle.word_rules.specs.declared.instruction.MatrixWord.the-variants.{TrnspSrcB}
@@ -44,25 +44,22 @@ unitOf op =
     (cond (eqb op 0xB6) ConfigUnit
     UnknownUnit)))))))))))))))))))))))
 
-abbrev pub matrixRows : ℕ → ℕ → Decoded
-matrixRows op w =
-    cond (eqb op 0x16) (Decodes (Matrix TrnspSrcB))
-    (cond (eqb op 0x0B) (movB2AOf w)
-    (cond (eqb op 0x10) (zeroAccOf w)
-    (cond (eqb op 0x36) (clearDValidOf w)
-    (cond (eqb op 0x57) (setDValidOf w)
-    (Rejects BadWord)))))
+-- any other opcode is 2
+abbrev pub badWord : Decoded
+badWord = Rejects BadWord
 
-abbrev pub scalarRows : ℕ → ℕ → Decoded
-scalarRows op w =
+-- the rows of block bit B5, and what any other opcode says
+abbrev pub scalarRows : ℕ → ℕ → Decoded → Decoded
+scalarRows op w other =
     cond (eqb op 0x45) (setDmaRegOf w)
     (cond (eqb op 0x58) (addDmaRegOf w)
     (cond (eqb op 0x5A) (mulDmaRegOf w)
     (cond (eqb op 0x60) (Decodes (Scalar DmaNop))
-    (Rejects BadWord))))
+    other)))
 
-abbrev pub syncRows : ℕ → ℕ → Decoded
-syncRows op w =
+-- B1
+abbrev pub syncRows : ℕ → ℕ → Decoded → Decoded
+syncRows op w other =
     cond (eqb op 0xA0) (atGetMOf w)
     (cond (eqb op 0xA1) (atRelMOf w)
     (cond (eqb op 0xA2) (stallWaitOf w)
@@ -70,10 +67,11 @@ syncRows op w =
     (cond (eqb op 0xA4) (semPostOf w)
     (cond (eqb op 0xA5) (semGetOf w)
     (cond (eqb op 0xA6) (semWaitOf w)
-    (Rejects BadWord)))))))
+    other))))))
 
-abbrev pub configRows : ℕ → ℕ → Decoded
-configRows op w =
+-- B7
+abbrev pub configRows : ℕ → ℕ → Decoded → Decoded
+configRows op w other =
     cond (eqb op 0xB0) (wrCfgOf w)
     (cond (eqb op 0xB1) (rdCfgOf w)
     (cond (eqb op 0xB2) (setC16Of w)
@@ -81,12 +79,49 @@ configRows op w =
     (cond (eqb op 0xB4) (rmwCibOf 1 w)
     (cond (eqb op 0xB5) (rmwCibOf 2 w)
     (cond (eqb op 0xB6) (rmwCibOf 3 w)
-    (Rejects BadWord)))))))
+    other))))))
+
+-- B6: the rows that work on source cells and marks
+abbrev pub cellRows : ℕ → ℕ → Decoded → Decoded
+cellRows op w other =
+    cond (eqb op 0x16) (Decodes (Matrix TrnspSrcB))
+    (cond (eqb op 0x0B) (movB2AOf w)
+    (cond (eqb op 0x10) (zeroAccOf w)
+    other))
+
+-- B6: the rows that work on bank owners and pointers
+abbrev pub bankRows : ℕ → ℕ → Decoded → Decoded
+bankRows op w other =
+    cond (eqb op 0x36) (clearDValidOf w)
+    (cond (eqb op 0x57) (setDValidOf w)
+    other)
 
 abbrev pub rowsOf : WordUnit → ℕ → ℕ → Decoded
 rowsOf NoUnit op w = Decodes Nop
-rowsOf ScalarUnit op w = scalarRows op w
-rowsOf SyncUnit op w = syncRows op w
-rowsOf ConfigUnit op w = configRows op w
-rowsOf MatrixUnit op w = matrixRows op w
-rowsOf UnknownUnit op w = Rejects BadWord
+rowsOf ScalarUnit op w = scalarRows op w badWord
+rowsOf SyncUnit op w = syncRows op w badWord
+rowsOf ConfigUnit op w = configRows op w badWord
+rowsOf MatrixUnit op w = cellRows op w (bankRows op w badWord)
+rowsOf UnknownUnit op w = badWord
+
+-- whether a word works on the control part
+unfoldable pub onControl : ℕ → Bool
+onControl op =
+    cond (eqb op 0x36) true
+    (cond (eqb op 0x57) true
+    (cond (eqb op 0xA0) true
+    (cond (eqb op 0xA1) true
+    (cond (eqb op 0xA2) true
+    (cond (eqb op 0xA3) true
+    (cond (eqb op 0xA4) true
+    (cond (eqb op 0xA5) true
+    (cond (eqb op 0xA6) true
+    false))))))))
+
+-- the rows of the words that do
+abbrev pub controlRows : ℕ → ℕ → Decoded
+controlRows op w = syncRows op w (bankRows op w badWord)
+
+-- and of those that leave it alone
+abbrev pub storeRows : ℕ → ℕ → Decoded
+storeRows op w = cond (eqb op 0x02) (Decodes Nop) (scalarRows op w (configRows op w (cellRows op w badWord)))

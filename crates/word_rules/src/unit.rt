@@ -1,6 +1,6 @@
-// The unit that a word is for, by its opcode.
+// What a word is for, by its opcode: a unit, and the control part or the stores.
 ghost use mathlib.Core.Path.{_≡_};
-ghost use Rattle.word_rules.specs.Units.{unitOf};
+ghost use Rattle.word_rules.specs.Units.{unitOf, onControl};
 
 // NOP is for no unit; the others are those of the block bits.
 pub enum WordUnit {
@@ -41,5 +41,23 @@ pub fn unit_of(op: u32) -> WordUnit
         0xB5 => WordUnit::ConfigUnit,
         0xB6 => WordUnit::ConfigUnit,
         _ => WordUnit::UnknownUnit,
+    }
+}
+
+// Whether a word works on the control part, by its opcode.
+pub fn on_control(op: u32) -> bool
+    ensures { λ r. ⌜ r ≡ onControl op ⌝ }
+{
+    match op {
+        0x36 => true,
+        0x57 => true,
+        0xA0 => true,
+        0xA1 => true,
+        0xA2 => true,
+        0xA3 => true,
+        0xA4 => true,
+        0xA5 => true,
+        0xA6 => true,
+        _ => false,
     }
 }
