@@ -15,7 +15,8 @@ use Rattle.machine.specs.declared.control.Control.{Control}
 use Rattle.banks.specs.Owners.{unpackBank}
 use Rattle.answers.specs.Answers.{accepted}
 use Rattle.source_access.specs.Promises.{SourcePromises}
-use Rattle.source_access.specs.Sources.{Sources, sourcePlace, sourceCheck, withSourceRow, writeSourceRowOf, canShow, shownRow}
+use Rattle.effects.specs.Places.{rowPlace}
+use Rattle.source_access.specs.Sources.{Sources, sourceCheck, withSourceRow, writeSourceRowOf, canShow, shownRow}
 use Rattle.answers.proofs.Checks.{checked-answer, checked-after}
 use Rattle.source_access.proofs.Facts.{SourceFacts, source-facts, ShowFacts, show-facts}
 use Rattle.row_cells.proofs.Rows.{row-same, row-other}
@@ -87,8 +88,8 @@ module _ (c : Control) (s : Sources) (file row : ℕ) (cells : List ℕ) (e : ac
       k′ = bank′ * bankRows + row′
 
       go : (t u : Bool) → eqb file 0 ≡ t → eqb file′ 0 ≡ u → ShowFacts sourceCount sourceCount file′ bank′ row′ →
-          take rowCells (drop (sourcePlace bank′ row′) (cond u (cond t (over (s .srcA) (k * rowCells) cells) (s .srcA)) (cond t (s .srcB) (over (s .srcB) (k * rowCells) cells))))
-          ≡ take rowCells (drop (sourcePlace bank′ row′) (cond u (s .srcA) (s .srcB)))
+          take rowCells (drop (rowPlace bank′ row′) (cond u (cond t (over (s .srcA) (k * rowCells) cells) (s .srcA)) (cond t (s .srcB) (over (s .srcB) (k * rowCells) cells))))
+          ≡ take rowCells (drop (rowPlace bank′ row′) (cond u (s .srcA) (s .srcB)))
       go true true p q w = row-other (s .srcA) k cells (f .cells-long) (inside (s .srcA) (f .a-long)) (bank′ * bankRows + row′) (same-row file′ bank′ row′ n (eqb-true file 0 p ∙ sym (eqb-true file′ 0 q)) (w .row-in))
       go true false p q w = refl
       go false true p q w = refl

@@ -6,9 +6,10 @@ use lib.Dec.{eqb, leb}
 use lib.ListN.{length, take, drop}
 use Rattle.bits.specs.Overwrite.{over}
 use Rattle.bits.specs.Ranges.{allAtMost}
+use Rattle.effects.specs.Places.{rowPlace}
 use Rattle.banks.specs.Owners.{unpackBank, unpackersOwn}
 use Rattle.machine.specs.Formed.{controlFormed}
-use Rattle.machine.specs.Sizes.{bankRows, cellMost, rowCells, sourceCount}
+use Rattle.machine.specs.Sizes.{cellMost, rowCells, sourceCount}
 use Rattle.machine.specs.declared.control.Control.{Control}
 use Rattle.answers.specs.Answers.{Told, accepted, provided, Call, checked}
 
@@ -19,10 +20,6 @@ pub record Sources : Type 0 where
 abbrev pub sources : List ℕ → List ℕ → Sources
 sources a b = record { srcA = a; srcB = b }
 
--- where a row's cells begin in the store of its file
-abbrev pub sourcePlace : ℕ → ℕ → ℕ
-sourcePlace bank row = (bank * bankRows + row) * rowCells
-
 -- the one of the two that belongs to the file
 abbrev pub ofFile : {A : Type 0} → ℕ → A → A → A
 ofFile file a b = cond (eqb file 0) a b
@@ -30,8 +27,8 @@ ofFile file a b = cond (eqb file 0) a b
 -- cells written into the store of the file; the other store is left
 unfoldable pub withSourceRow : Sources → ℕ → ℕ → ℕ → List ℕ → Sources
 withSourceRow s file bank row cells =
-    sources (ofFile file (over (s .srcA) (sourcePlace bank row) cells) (s .srcA))
-    (ofFile file (s .srcB) (over (s .srcB) (sourcePlace bank row) cells))
+    sources (ofFile file (over (s .srcA) (rowPlace bank row) cells) (s .srcA))
+    (ofFile file (s .srcB) (over (s .srcB) (rowPlace bank row) cells))
 
 -- both stores and the cells lent have their lengths
 unfoldable pub sourcesSized : Sources → List ℕ → Bool
@@ -66,8 +63,8 @@ canShow a b file bank row = (eqb a sourceCount && eqb b sourceCount) && (leb fil
 -- the sixteen cells of a row as a part of the file's store; an empty part where there is none
 unfoldable pub shownRow : List ℕ → List ℕ → ℕ → ℕ → ℕ → List ℕ
 shownRow a b file bank row =
-    cond (canShow (length a) (length b) file bank row) (take rowCells (drop (sourcePlace bank row) (ofFile file a b))) []
+    cond (canShow (length a) (length b) file bank row) (take rowCells (drop (rowPlace bank row) (ofFile file a b))) []
 
 -- where the part begins in memory, given where the stores do: it lies in the file's store itself, at 4 bytes a cell
 abbrev pub shownAt : ℕ × ℕ → ℕ × ℕ → ℕ → ℕ → ℕ → ℕ × ℕ
-shownAt a b file bank row = (ofFile file a b .0, sourcePlace bank row * 4 + ofFile file a b .1)
+shownAt a b file bank row = (ofFile file a b .0, rowPlace bank row * 4 + ofFile file a b .1)

@@ -1,30 +1,21 @@
 // Rows of the source files: file 0 is SrcA, 1 is SrcB.
 ghost use mathlib.Core.Path.{_≡_};
 ghost use mathlib.Core.Bool.{true};
-ghost use Prim.Native.Nat.{_≤_};
 ghost use lib.ListN.{length};
 ghost use denote.Ref.{ptr};
 ghost use Rattle.answers.specs.Answers.{told, call};
-ghost use Rattle.source_access.specs.Sources.{sources, sourcePlace, sourcesSized, sourcesFormed, rowInRange, sourceCheck, writeSourceRowOf, canShow, shownRow, shownAt};
+ghost use Rattle.source_access.specs.Sources.{sources, sourcesSized, sourcesFormed, rowInRange, sourceCheck, writeSourceRowOf, canShow, shownRow, shownAt};
 ghost use Rattle.source_access.specs.Promises.{SourcePromises};
 use answers::Access;
 use banks::owners::unpackers_own;
+use effects::places::row_place;
 use formed::cells_formed;
 use formed_control::control_formed;
 use machine::control::Control;
 use machine::refusal::Refusal;
-use machine::sizes::BANK_ROWS;
 use machine::sizes::ROW_CELLS;
 use machine::sizes::SOURCE_CELLS;
 use row_cells::put_words;
-
-// Where the cells of a row begin in a source store. Internal: both numbers are in range.
-fn source_place(bank: usize, row: usize) -> usize
-    requires { ⌜ (bank ≤ 1) × (row ≤ 63) ⌝ }
-    ensures { λ r. ⌜ r ≡ sourcePlace bank row ⌝ }
-{
-    (bank * BANK_ROWS + row) * ROW_CELLS
-}
 
 fn sources_sized(src_a: &[u32], src_b: &[u32], cells: &[u32]) -> bool
     ensures { λ r. ⌜ r ≡ sourcesSized (sources (now («src_a» .entry)) (now («src_b» .entry))) (now (cells .entry)) ⌝ }
@@ -90,7 +81,7 @@ pub fn write_source_row(
         return access;
     }
     let bank = control.pointers[2 + file as usize] as usize;
-    let at = source_place(bank, row as usize);
+    let at = row_place(bank, row as usize);
     if file == 0 {
         put_words(src_a, at, cells);
         return Access::Granted;
@@ -119,7 +110,7 @@ pub fn show_row<'a>(src_a: &'a [u32], src_b: &'a [u32], file: u32, bank: u32, ro
     if !shown {
         return &src_a[0..0];
     }
-    let at = source_place(bank as usize, row as usize);
+    let at = row_place(bank as usize, row as usize);
     if file == 0 {
         return &src_a[at..at + ROW_CELLS];
     }

@@ -18,41 +18,41 @@ returns c =
     let e : canShow (length (a .src-a .now)) (length (a .src-b .now)) (a .file) (a .bank) (a .row) ≡ false = failed (c .before .before .can-show .ensures) (c .before .if1 .taken) in
     (rw e, λ h. let z : _≡_ {A = ℕ} 0 1 = cc in absurd (omega arith))
 
-source-place-requires : tie.Need-source-place-requires
-source-place-requires c κs =
+row-place-requires : tie.Need-row-place-requires
+row-place-requires c κs =
     let a = c .before .before .before .before .args in
     let f = show-facts (length (a .src-a .now)) (length (a .src-b .now)) (a .file) (a .bank) (a .row) (held (c .before .can-show .ensures) (c .if1 .left)) in
-    (f .bank-in, f .row-in)
+    (omega (arith, f .bank-in), omega (arith, f .row-in))
 
 part-result-end-2 : tie.Need-part-result-end-2
 part-result-end-2 c =
     let a = c .before .before .before .before .before .before .args in
-    omega (arith, c .before .source-place .ensures, show-facts (length (a .src-a .now)) (length (a .src-b .now)) (a .file) (a .bank) (a .row) (held (c .before .before .before .can-show .ensures) (c .before .before .if1 .left)))
+    omega (arith, c .before .row-place .ensures, show-facts (length (a .src-a .now)) (length (a .src-b .now)) (a .file) (a .bank) (a .row) (held (c .before .before .before .can-show .ensures) (c .before .before .if1 .left)))
 
 returns-2 : tie.Need-returns-2
 unfolding shownRow
 returns-2 c =
     let a = c .before .before .before .before .before .before .before .args in
-    let p = c .before .before .source-place .result in
+    let p = c .before .before .row-place .result in
     let n : p + 16 - p ≡ 16 = omega arith in
     let e : canShow (length (a .src-a .now)) (length (a .src-b .now)) (a .file) (a .bank) (a .row) ≡ true = held (c .before .before .before .before .can-show .ensures) (c .before .before .before .if1 .left) in
     let t = eq-eqb (a .file) 0 (c .before .if2 .taken) in
-    (rw (e, n, c .before .before .source-place .ensures, t), λ h. rw (c .before .before .source-place .ensures, t))
+    (rw (e, n, c .before .before .row-place .ensures, t), λ h. rw (c .before .before .row-place .ensures, t))
 
 part-result-end-3 : tie.Need-part-result-end-3
 part-result-end-3 c =
     let a = c .before .before .before .before .before .before .args in
-    omega (arith, c .before .source-place .ensures, show-facts (length (a .src-a .now)) (length (a .src-b .now)) (a .file) (a .bank) (a .row) (held (c .before .before .before .can-show .ensures) (c .before .before .if1 .left)))
+    omega (arith, c .before .row-place .ensures, show-facts (length (a .src-a .now)) (length (a .src-b .now)) (a .file) (a .bank) (a .row) (held (c .before .before .before .can-show .ensures) (c .before .before .if1 .left)))
 
 returns-3 : tie.Need-returns-3
 unfolding shownRow
 returns-3 c =
     let a = c .before .before .before .before .before .before .before .args in
-    let p = c .before .before .source-place .result in
+    let p = c .before .before .row-place .result in
     let n : p + 16 - p ≡ 16 = omega arith in
     let e : canShow (length (a .src-a .now)) (length (a .src-b .now)) (a .file) (a .bank) (a .row) ≡ true = held (c .before .before .before .before .can-show .ensures) (c .before .before .before .if1 .left) in
     let t = ne-eqb (a .file) 0 (c .before .if2 .left) in
-    (rw (e, n, c .before .before .source-place .ensures, t), λ h. rw (c .before .before .source-place .ensures, t))
+    (rw (e, n, c .before .before .row-place .ensures, t), λ h. rw (c .before .before .row-place .ensures, t))
 
 pub show-row-spec : {M : Type 1} → statement M
 show-row-spec =
@@ -63,7 +63,7 @@ show-row-spec =
     (λ c. search needs)
     (λ c. search needs)
     returns
-    source-place-requires
+    row-place-requires
     (λ c. search needs)
     (λ c. search needs)
     (λ c. search needs)
