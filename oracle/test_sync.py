@@ -65,21 +65,18 @@ class Semaphores(unittest.TestCase):
                 self.assertEqual(offer(machine, 0, asm.seminit(0x80, value, maximum)), ('passed',))
                 self.assertEqual(machine.semaphores, [[0, 0]] * 7 + [[value, maximum]])
 
-    def test_post_ends_at_15_whatever_the_maximum(self):
+    def ends_at(self, near, end, thread, word):
         machine = fresh()
-        machine.semaphores[0] = [14, 3]
-        step(machine, 0, asm.sempost(1))
-        self.assertEqual(machine.semaphores[0], [15, 3])
-        step(machine, 0, asm.sempost(1))
-        self.assertEqual(machine.semaphores[0], [15, 3])
+        machine.semaphores[0] = [near, 3]
+        for _ in range(2):
+            step(machine, thread, word)
+            self.assertEqual(machine.semaphores[0], [end, 3])
+
+    def test_post_ends_at_15_whatever_the_maximum(self):
+        self.ends_at(14, 15, 0, asm.sempost(1))
 
     def test_get_ends_at_0(self):
-        machine = fresh()
-        machine.semaphores[0] = [1, 3]
-        step(machine, 2, asm.semget(1))
-        self.assertEqual(machine.semaphores[0], [0, 3])
-        step(machine, 2, asm.semget(1))
-        self.assertEqual(machine.semaphores[0], [0, 3])
+        self.ends_at(1, 0, 2, asm.semget(1))
 
 
 if __name__ == '__main__':

@@ -1,12 +1,13 @@
 -- Loops that read or write a run of values: what holds whenever the loop's test is reached, over the values' type.
-use Prim.Native.Nat.{ℕ, suc, _+_, _*_, _-_, _≤_, _<_}
-use mathlib.Core.Path.{_≡_, refl, sym, ap, _∙_}
+use Prim.Native.Nat.{ℕ, suc, _+_, _*_, _-_, _≤_, _<_, _%_}
+use mathlib.Core.Path.{_≡_, refl, sym, ap, ap₂, _∙_}
 use mathlib.Core.List.{List, [], _∷_, _++_, append-assoc, append-nil}
 use native.Mathlib.Nat.{suc-mul}
 use native.Mathlib.Numerals.{add-one}
 use native.Mathlib.Omega.{arith}
 use lib.ListN.{length, take, drop, getD, set, length-set, length-append, drop-of-length-le}
 use lib.Seq.{take-suc-set, take-all, drop-cons, drop-drop}
+use Rattle.bits.specs.Bytes.{enc}
 use Rattle.bits.specs.Overwrite.{over, Wrote}
 use Rattle.bits.proofs.Overwrite.{over-over, over-none, over-long}
 use Rattle.format.specs.Format.{manyPut, manyGet}
@@ -53,6 +54,14 @@ pub puts-long : {A : Type 0} (one : A → List ℕ) (w : ℕ) → ((a : A) → l
 unfolding manyPut
 puts-long one w h [] = omega arith
 puts-long one w h (a ∷ l) = length-append (one a) (manyPut one l) ∙ omega (arith, h a, puts-long one w h l, suc-mul (length l) w)
+
+-- bytes are written as themselves
+pub bytes-put : (l : List ℕ) → ((i : ℕ) → getD l i 0 < 256) → manyPut (enc 1) l ≡ l
+unfolding manyPut enc
+bytes-put [] h = refl
+bytes-put (b ∷ l) h =
+    let e : b % 256 ≡ b = omega (arith, h 0) in
+    ap₂ _∷_ e (bytes-put l (λ i. h (suc i)))
 
 -- ---- writing: the values from index i on are still to be written, from p on
 pub record Writing {A : Type 0} (one : A → List ℕ) (w : ℕ) (out₀ : List ℕ) (at : ℕ) (src : List A) (out : List ℕ) (p i : ℕ) : Type 0 where

@@ -81,13 +81,7 @@ pub fn write_bytes(out: &mut [u8], at: usize, src: &[u8])
     requires { ⌜ at + length (now src) * 1 ≤ length (now out) ⌝ }
     ensures { λ _. ⌜ Wrote (now (out .entry)) at (manyPut (enc 1) (now (src .entry))) (now (out .exit)) (at + length (now (src .entry)) * 1) ⌝ }
 {
-    let mut p = at;
-    let mut i: usize = 0;
-    while i < src.len() {
-        out[p] = src[i];
-        p += 1;
-        i += 1;
-    }
+    text::put_bytes(out, at, src);
 }
 
 // Writes a record's head: the body's length and its kind. Internal: there is room.

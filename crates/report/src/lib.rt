@@ -17,7 +17,7 @@ pub fn put_number_line(out: &mut [u8], at: usize, words: &[u8], n: usize) -> usi
     ensures { λ r. ⌜ Wrote (now (out .entry)) at (numberLine (now (words .entry)) n) (now (out .exit)) r ⌝ }
     ensures short { λ r. ⌜ r ≤ at + length (now (words .entry)) + 21 ⌝ }
 {
-    let p = text::put_text(out, at, words);
+    let p = text::put_bytes(out, at, words);
     let q = text::put_decimal(out, p, n);
     text::put_byte(out, q, 10)
 }
@@ -28,8 +28,8 @@ fn put_word_line(out: &mut [u8], at: usize, words: &[u8]) -> usize
     ensures { λ r. ⌜ Wrote (now (out .entry)) at (wordLine (now (words .entry))) (now (out .exit)) r ⌝ }
     ensures short { λ r. ⌜ r ≤ at + length (now (words .entry)) + 5 ⌝ }
 {
-    let p = text::put_text(out, at, b"end ");
-    let q = text::put_text(out, p, words);
+    let p = text::put_bytes(out, at, b"end ");
+    let q = text::put_bytes(out, p, words);
     text::put_byte(out, q, 10)
 }
 
@@ -45,7 +45,7 @@ pub fn put_end_line(out: &mut [u8], at: usize, e: Ending) -> usize
         Ending::BudgetUsed => put_word_line(out, at, b"budget"),
         Ending::WordRefused(r) => {
             let n = refusal::refusal_number(r) as usize;
-            let p = text::put_text(out, at, b"end ");
+            let p = text::put_bytes(out, at, b"end ");
             put_number_line(out, p, b"refused ", n)
         }
         Ending::CallRefused(r) => {
@@ -62,7 +62,7 @@ fn put_thread_line(out: &mut [u8], at: usize, t: u8, position: usize, n: usize) 
     ensures short { λ r. ⌜ r ≤ at + 50 ⌝ }
 {
     let head = [b't', 48 + t, b' '];
-    let p = text::put_text(out, at, &head);
+    let p = text::put_bytes(out, at, &head);
     let q = text::put_decimal(out, p, position);
     let s = text::put_byte(out, q, b'/');
     put_number_line(out, s, b"", n)

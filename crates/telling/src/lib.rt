@@ -61,7 +61,7 @@ fn put_rejected(out: &mut [u8], answer: Ending, came: &[u8]) -> usize
     ensures { λ r. ⌜ Wrote (now (out .entry)) 0 (endLine answer ++ now (came .entry)) (now (out .exit)) r ⌝ }
 {
     let p = report::put_end_line(out, 0, answer);
-    text::put_text(out, p, came)
+    text::put_bytes(out, p, came)
 }
 
 // Whether the call was refused.

@@ -56,14 +56,14 @@ digits-next l at (suc left) m h k =
     let f : at + left ≡ at + length (lastDigits left (m / 10)) = ap (λ (x : ℕ). at + x) (sym n) in
     rw (e, f) (over-before l at (lastDigits left (m / 10)) (m % 10 + 48) (omega arith))
 
--- a turn of the writing of a text
-pub text-next : (l : List ℕ) (p i : ℕ) (t : List ℕ) → i < length t → p < length l →
+-- a turn of the writing of bytes
+pub bytes-next : (l : List ℕ) (p i : ℕ) (t : List ℕ) → i < length t → p < length l →
     over (set l p (getD t i 0)) (p + 1) (drop (i + 1) t) ≡ over l p (drop i t)
-text-next l p i t h k =
+bytes-next l p i t h k =
     rw (drop-cons t i 0 h, over-set l p (getD t i 0) k, add-one i) (over-over l p (getD t i 0 ∷ []) (drop (suc i) t) (omega arith))
 
-pub text-end : (l : List ℕ) (p i : ℕ) (t : List ℕ) → length t ≤ i → i ≤ length t → over l p (drop i t) ≡ l
-text-end l p i t h k = let e : i ≡ length t = omega arith in rw (e, drop-length) (over-none l p)
+pub bytes-end : (l : List ℕ) (p i : ℕ) (t : List ℕ) → length t ≤ i → i ≤ length t → over l p (drop i t) ≡ l
+bytes-end l p i t h k = let e : i ≡ length t = omega arith in rw (e, drop-length) (over-none l p)
 
 -- where no digit is left
 pub count-none : (left n : ℕ) → left ≡ 0 → digitCount left n ≡ 0

@@ -1,4 +1,4 @@
-// Text written into a lent buffer: bytes, byte strings and decimal numbers. Each function answers where the next byte goes.
+// Bytes, runs of them and decimal numbers written into a lent buffer. Each function answers where the next byte goes.
 ghost use mathlib.Core.Path.{_≡_};
 ghost use mathlib.Core.List.{[], _∷_};
 ghost use Prim.Native.Nat.{_+_, _≤_};
@@ -16,14 +16,14 @@ pub fn put_byte(out: &mut [u8], at: usize, b: u8) -> usize
 }
 
 // Internal: there is room.
-pub fn put_text(out: &mut [u8], at: usize, text: &[u8]) -> usize
-    requires { ⌜ at + length (now text) ≤ length (now out) ⌝ }
-    ensures { λ r. ⌜ Wrote (now (out .entry)) at (now (text .entry)) (now (out .exit)) r ⌝ }
+pub fn put_bytes(out: &mut [u8], at: usize, bytes: &[u8]) -> usize
+    requires { ⌜ at + length (now bytes) ≤ length (now out) ⌝ }
+    ensures { λ r. ⌜ Wrote (now (out .entry)) at (now (bytes .entry)) (now (out .exit)) r ⌝ }
 {
     let mut p = at;
     let mut i: usize = 0;
-    while i < text.len() {
-        out[p] = text[i];
+    while i < bytes.len() {
+        out[p] = bytes[i];
         p += 1;
         i += 1;
     }

@@ -19,7 +19,7 @@ returns-3 c = rw (c .before .before .before .before .before .enum-told3 .given .
 
 returns-4 : tie.Need-returns-4
 unfolding endLine
-returns-4 c = rw (c .before .before .before .before .before .before .before .before .before .before .before .before .e .given .1) (rw (← c .before .before .before .before .before .before .before .before .before .before .refusal-number .ensures) (wrote-then (c .before .before .before .before .before .before .before .put-text .ensures) (c .before .before .put-number-line .ensures .0) (omega arith)), omega arith)
+returns-4 c = rw (c .before .before .before .before .before .before .before .before .before .before .before .before .e .given .1) (rw (← c .before .before .before .before .before .before .before .before .before .before .refusal-number .ensures) (wrote-then (c .before .before .before .before .before .before .before .put-bytes .ensures) (c .before .before .put-number-line .ensures .0) (omega arith)), omega arith)
 
 returns-5 : tie.Need-returns-5
 unfolding endLine

@@ -7,7 +7,7 @@ use Rattle.report.proofs.put_thread_line.Tie as tie
 
 returns : tie.Need-returns
 unfolding threadLine
-returns c = (wrote-then (c .before .before .before .before .before .before .before .before .before .before .before .before .before .before .before .put-text .ensures) (wrote-then (c .before .before .before .before .before .before .before .before .before .before .before .put-decimal .ensures .0) (wrote-then (c .before .before .before .before .before .before .before .put-byte .ensures) (c .before .before .put-number-line .ensures .0) (omega arith)) (omega arith)) (omega arith), omega arith)
+returns c = (wrote-then (c .before .before .before .before .before .before .before .before .before .before .before .before .before .before .before .put-bytes .ensures) (wrote-then (c .before .before .before .before .before .before .before .before .before .before .before .put-decimal .ensures .0) (wrote-then (c .before .before .before .before .before .before .before .put-byte .ensures) (c .before .before .put-number-line .ensures .0) (omega arith)) (omega arith)) (omega arith), omega arith)
 
 pub put-thread-line-spec : {M : Type 1} → statement M
 put-thread-line-spec =

@@ -5,7 +5,7 @@ use Rattle.telling.proofs.put_rejected.Statement.{statement}
 use Rattle.telling.proofs.put_rejected.Tie as tie
 
 returns : tie.Need-returns
-returns c = wrote-then (c .before .before .before .before .before .before .put-end-line .ensures .0) (c .before .before .put-text .ensures) (omega arith)
+returns c = wrote-then (c .before .before .before .before .before .before .put-end-line .ensures .0) (c .before .before .put-bytes .ensures) (omega arith)
 
 pub put-rejected-spec : {M : Type 1} → statement M
 put-rejected-spec =
