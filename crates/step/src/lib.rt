@@ -1,6 +1,4 @@
 // One word on the whole machine.
-mod stores;
-
 ghost use mathlib.Core.Path.{_≡_};
 ghost use mathlib.Core.Bool.{true};
 ghost use Prim.Native.Nat.{_<_};
@@ -8,7 +6,6 @@ ghost use Rattle.machine.specs.Machine.{machine, stores};
 ghost use Rattle.machine.specs.Numbers.{outcomeNumbers};
 ghost use Rattle.machine.specs.Formed.{sized, controlFormed};
 ghost use Rattle.step_rules.specs.Step.{stepped, offerOf, checkOf, stepOf};
-use crate::stores::store_word;
 use banks::owners::matrix_owns;
 use control::Stepped;
 use control::finished;
@@ -18,6 +15,7 @@ use machine::control::Control;
 use machine::refusal::Outcome;
 use machine::refusal::Refusal;
 use step_rules::CallCheck;
+use store_words::store_word;
 use word_rules::unit::on_control;
 
 // A word offered by a thread. Its wait is judged once; then the word is refused, stalled or done, on the control part or on the

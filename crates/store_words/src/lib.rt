@@ -100,7 +100,7 @@ fn config_word(
 }
 
 // NOP and the words of the scalar unit, or else those above.
-pub(crate) fn store_word(
+pub fn store_word(
     settings: &mut [u16],
     gprs: &mut [u32],
     config: &mut [u32],

@@ -5,8 +5,8 @@ use Rattle.word_rules.specs.MatrixWords.{hasAddrMod, viewRows, placePast}
 use Rattle.word_rules.proofs.Only.{IsMatrix, unless-only}
 use Rattle.effects.proofs.OnStores.{refused-leaves, matrix-leaves}
 use borrow.Author.Needs.{needs}
-use Rattle.step.proofs.stores.cell_word.Statement.{statement}
-use Rattle.step.proofs.stores.cell_word.Tie as tie
+use Rattle.store_words.proofs.cell_word.Statement.{statement}
+use Rattle.store_words.proofs.cell_word.Tie as tie
 
 returns : tie.Need-returns
 returns c gprs dest = rw (c .before .before .before .before .match .keys1) (matrix-leaves _ _ _ _ _ _ _ _ _ _ _ _ _ tt _ _ _ _ (c .before .before .trnsp-src-b .ensures _ _ _ _ _))

@@ -10,8 +10,8 @@ use Rattle.effects.specs.Gprs.{gprsAfter}
 use Rattle.effects.proofs.Offering.{gprs-untouched}
 use Rattle.effects.proofs.OnStores.{nop-leaves, scalar-leaves}
 use borrow.Author.Needs.{needs}
-use Rattle.step.proofs.stores.store_word.Statement.{statement}
-use Rattle.step.proofs.stores.store_word.Tie as tie
+use Rattle.store_words.proofs.store_word.Statement.{statement}
+use Rattle.store_words.proofs.store_word.Tie as tie
 
 returns : tie.Need-returns
 returns c dest = rw (c .match .keys1) (nop-leaves _ _ _ _ _ _ _ _ _ _ _ _)

@@ -5,8 +5,8 @@ use Rattle.bits.specs.Field.{field}
 use Rattle.word_rules.proofs.Only.{IsConfig, unless-only}
 use Rattle.effects.proofs.OnStores.{config-leaves}
 use borrow.Author.Needs.{needs}
-use Rattle.step.proofs.stores.config_word.Statement.{statement}
-use Rattle.step.proofs.stores.config_word.Tie as tie
+use Rattle.store_words.proofs.config_word.Statement.{statement}
+use Rattle.store_words.proofs.config_word.Tie as tie
 
 returns : tie.Need-returns
 returns c dest = let a = c .before .before .before .before .before .before .before .before .before .before .before .before .before .args in rw (c .before .before .before .before .before .before .match .keys1) (config-leaves _ _ _ _ _ _ _ _ _ _ _ _ _ (unless-only IsConfig false (ltb 255 (field 0 11 (a .word))) _ tt) _ _ _ _ (c .before .before .wr-cfg .ensures))
