@@ -94,7 +94,7 @@ def mixed_streams(seed=1, words=STREAM):
         r += 1
 
 
-# One kind of word alone, on all three threads.
+# One kind of word alone, on all three threads: its fields at random, and for some words also as a kernel has them.
 
 SINGLE = {
     'NOP': lambda d: asm.nop(),
@@ -103,18 +103,24 @@ SINGLE = {
     'MULDMAREG': lambda d: asm.muldmareg(d.draw() % 64, d.draw() % 64, d.draw() % 64, d.draw() % 2),
     'DMANOP': lambda d: asm.dmanop(),
     'SETDVALID': lambda d: asm.setdvalid(d.draw() % 2, d.draw() % 2),
+    'SETDVALID of both': lambda d: asm.setdvalid(1, 1),
     'CLEARDVALID': lambda d: asm.cleardvalid(d.draw() % 2, d.draw() % 2, d.draw() % 2),
+    'CLEARDVALID of both': lambda d: asm.cleardvalid(1, 1),
     'ATRELM': lambda d: asm.atrelm(d.draw() % 8),
     'STALLWAIT': lambda d: asm.stallwait(SCALAR, d.draw() % 32768),
     'SEMINIT': lambda d: asm.seminit(d.draw() % 256, d.draw() % 16, d.draw() % 16),
+    'SEMINIT of one': lambda d: asm.seminit(1, d.draw() % 16, d.draw() % 16),
     'SEMPOST': lambda d: asm.sempost(d.draw() % 256),
+    'SEMPOST of one': lambda d: asm.sempost(1),
     'SEMGET': lambda d: asm.semget(d.draw() % 256),
+    'SEMGET of one': lambda d: asm.semget(1),
     'SEMWAIT': lambda d: asm.semwait(SCALAR, d.draw() % 256, d.draw() % 4),
     'WRCFG': lambda d: asm.wrcfg(d.draw() % 64, d.draw() % 255),
     'WRCFG of four': lambda d: asm.wrcfg(d.draw() % 64, d.draw() % 252, 1),
     'RDCFG': lambda d: asm.rdcfg(d.draw() % 64, d.draw() % 256),
     'SETC16': lambda d: asm.setc16(1 + d.draw() % 63, d.draw()),
     'RMWCIB': lambda d: asm.rmwcib(d.draw() % 4, d.draw() % 255, d.draw() % 256, d.draw() % 256),
+    'RMWCIB0': lambda d: asm.rmwcib(0, d.draw() % 255, d.draw() % 256, d.draw() % 256),
     'ZEROACC of a row': lambda d: asm.zeroacc(0, d.draw() % 512, d.draw() % 2),
     'ZEROACC of 16 rows': lambda d: asm.zeroacc(1, d.draw() % 32, d.draw() % 2),
     'ZEROACC of a half': lambda d: asm.zeroacc(2, d.draw() % 2, d.draw() % 2),
