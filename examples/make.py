@@ -2,7 +2,7 @@
 """Write the input files of the examples: `python3 examples/make.py`.
 
 A kernel here is three lists of words, one a thread, and a budget of turns. Each file NAME.bin is what `./emulate` reads, and
-saved_NAME.bin what `./replay` reads.
+saved_NAME.bin what `./resume` reads.
 """
 
 import os
@@ -48,7 +48,7 @@ def saved_transpose():
     machine = fresh()
     machine.owners[2] = MATRIX
     machine.src_b[0] = [[16 * row + column for column in range(16)] for row in range(64)]
-    return asm.replay_input(image_of(machine), [[], [asm.trnspsrcb()], []], 100, (0, 0, 0), 0)
+    return asm.resume_input(image_of(machine), [[], [asm.trnspsrcb()], []], 100, (0, 0, 0), 0)
 
 
 EXAMPLES = {

@@ -113,6 +113,6 @@ def emulate_input(streams, budget):
             + number_record(35, budget))
 
 
-def replay_input(image, streams, budget, positions=(0, 0, 0), following=0):
-    """Standard input of `replay`."""
+def resume_input(image, streams, budget, positions=(0, 0, 0), following=0):
+    """Standard input of `resume`."""
     return image + emulate_input(streams, budget) + number_record(36, *positions, following)

@@ -1,7 +1,7 @@
-"""The programs: `emulate` (document 01, "Program and cases") and `replay`, which also takes and gives an image.
+"""The programs: `emulate` (document 01, "Program and cases") and `resume`, which also takes and gives an image.
 
     python3 oracle/program.py emulate < FILE
-    python3 oracle/program.py replay < FILE
+    python3 oracle/program.py resume < FILE
 """
 
 import sys
@@ -91,7 +91,7 @@ def emulate(data):
     return summary(run(fresh(), streams, START, budget), streams)
 
 
-def replay(data, load=read_image):
+def resume(data, load=read_image):
     """Standard output of the whole-state program: an image, streams, budget and cursor in; lines and an image out.
     The machine that the image loads to is run, and written."""
     image = data[:SIZE]
@@ -113,12 +113,12 @@ def replay(data, load=read_image):
     return summary(result, streams) + lines(f'next {result.cursor.next}') + image_of(machine)
 
 
-PROGRAMS = {'emulate': emulate, 'replay': replay}
+PROGRAMS = {'emulate': emulate, 'resume': resume}
 
 
 def main(arguments):
     if len(arguments) != 1 or arguments[0] not in PROGRAMS:
-        sys.exit('usage: program.py emulate|replay < FILE')
+        sys.exit('usage: program.py emulate|resume < FILE')
     sys.stdout.buffer.write(PROGRAMS[arguments[0]](sys.stdin.buffer.read()))
 
 

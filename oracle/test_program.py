@@ -1,4 +1,4 @@
-"""The programs: printed lines, bad records and their offsets, and `replay`."""
+"""The programs: printed lines, bad records and their offsets, and `resume`."""
 
 import subprocess
 import sys
@@ -8,7 +8,7 @@ from pathlib import Path
 import assemble as asm
 from image import SIZE, image_of
 from machine import fresh
-from program import emulate, replay
+from program import emulate, resume
 from run import Cursor, run
 from testing import busy, still
 
@@ -83,24 +83,24 @@ class Emulate(unittest.TestCase):
         self.bad(PLAIN[:30] + b'\xFF\xFF\xFF\xFF' + PLAIN[34:], 30)
 
 
-class Replay(unittest.TestCase):
+class Resume(unittest.TestCase):
     def test_same_as_a_run(self):
         streams = [[asm.setdmareg(3, 0xC000), asm.atgetm(2)], [asm.sempost(255), asm.wrcfg(3, 200, 1)], [BAD, NOP]]
         for cursor, budget in ((Cursor((0, 0, 1), 0), 50), (Cursor((1, 0, 2), 1), 2), (Cursor((0, 0, 0), 2), 9),
                                (Cursor((2, 2, 2), 1), 9), (Cursor((0, 0, 2), 2), 0)):
             machine = busy(80)
-            data = asm.replay_input(image_of(machine), streams, budget, cursor.positions, cursor.next)
+            data = asm.resume_input(image_of(machine), streams, budget, cursor.positions, cursor.next)
             result = run(machine, streams, cursor, budget)
             lines = ['end ' + ' '.join(str(part) for part in result.answer), f'turns {result.turns}']
             lines += [f't{thread} {result.cursor.positions[thread]}/2' for thread in range(3)]
             lines += [f'next {result.cursor.next}']
-            self.assertEqual(replay(data), '\n'.join(lines).encode() + b'\n' + image_of(machine))
+            self.assertEqual(resume(data), '\n'.join(lines).encode() + b'\n' + image_of(machine))
 
     def test_hand_worked(self):
         machine, after = fresh(), fresh()
         after.gprs[1][4] = 0x1234
-        data = asm.replay_input(image_of(machine), [[], [NOP, 0x45123408], []], 7, (0, 1, 0), 1)
-        self.assertEqual(replay(data), b'end finished\nturns 1\nt0 0/0\nt1 2/2\nt2 0/0\nnext 2\n' + image_of(after))
+        data = asm.resume_input(image_of(machine), [[], [NOP, 0x45123408], []], 7, (0, 1, 0), 1)
+        self.assertEqual(resume(data), b'end finished\nturns 1\nt0 0/0\nt1 2/2\nt2 0/0\nnext 2\n' + image_of(after))
 
     def test_rejected_calls(self):
         image = image_of(still(81))
@@ -108,36 +108,36 @@ class Replay(unittest.TestCase):
         for positions, following, budget, number in (
                 ((2, 0, 0), 0, 1, 5), ((0, 1, 0), 0, 1, 5), ((0, 0, 0), 3, 1, 5), ((0, 0, 0), 0, 1000001, 6),
                 ((0, 0, 0), 0, 0xFFFFFFFF, 6), ((0, 0, 0xFFFFFFFF), 0xFFFFFFFF, 1000001, 5)):
-            self.assertEqual(replay(asm.replay_input(image, streams, budget, positions, following)),
+            self.assertEqual(resume(asm.resume_input(image, streams, budget, positions, following)),
                              f'rejected {number}\n'.encode() + image)
 
     def test_bad_images(self):
         image = bytearray(image_of(still(81)))
-        self.assertEqual(replay(b''), b'bad image at 0\n')
-        self.assertEqual(replay(bytes(image[:SIZE - 1])), b'bad image at 48470\n')
+        self.assertEqual(resume(b''), b'bad image at 0\n')
+        self.assertEqual(resume(bytes(image[:SIZE - 1])), b'bad image at 48470\n')
         image[390] = 4
-        self.assertEqual(replay(bytes(image)), b'bad image at 390\n')
-        self.assertEqual(replay(asm.replay_input(bytes(image), [[], [], []], 1000001)), b'bad image at 390\n')
+        self.assertEqual(resume(bytes(image)), b'bad image at 390\n')
+        self.assertEqual(resume(asm.resume_input(bytes(image), [[], [], []], 1000001)), b'bad image at 390\n')
 
     def test_bad_records(self):
         image = image_of(fresh())
-        data = asm.replay_input(image, [[NOP], [NOP], [NOP]], 100)
+        data = asm.resume_input(image, [[NOP], [NOP], [NOP]], 100)
         self.assertEqual(len(data), SIZE + 62)
         for length in (0, 1, 3, 5, 6, 9, 10, 15, 19, 20, 29, 30, 36, 39, 40, 41, 45, 46, 50, 61):
             start = SIZE + min(length // 10, 4) * 10
-            self.assertEqual(replay(data[:SIZE + length]), f'bad record at {start}\n'.encode())
-        self.assertEqual(replay(data + b'\0'), f'bad record at {SIZE + 62}\n'.encode())
+            self.assertEqual(resume(data[:SIZE + length]), f'bad record at {start}\n'.encode())
+        self.assertEqual(resume(data + b'\0'), f'bad record at {SIZE + 62}\n'.encode())
         for length in (0, 4, 12, 15, 17, 20):
             changed = data[:SIZE + 40] + asm.record(36, bytes(length))
-            self.assertEqual(replay(changed), f'bad record at {SIZE + 40}\n'.encode())
+            self.assertEqual(resume(changed), f'bad record at {SIZE + 40}\n'.encode())
 
     def test_streams_to_65536_words(self):
         image = image_of(fresh())
         full = asm.number_record(32, *[NOP] * 65536)
         rest = asm.emulate_input([[], [], []], 1)[6:] + asm.number_record(36, 65535, 0, 0, 0)
-        self.assertTrue(replay(image + full + rest).startswith(b'end finished\nturns 1\nt0 65536/65536\n'))
+        self.assertTrue(resume(image + full + rest).startswith(b'end finished\nturns 1\nt0 65536/65536\n'))
         over = asm.number_record(32, *[NOP] * 65537)
-        self.assertEqual(replay(image + over + rest), f'bad record at {SIZE}\n'.encode())
+        self.assertEqual(resume(image + over + rest), f'bad record at {SIZE}\n'.encode())
 
 
 class CommandLine(unittest.TestCase):
@@ -148,9 +148,9 @@ class CommandLine(unittest.TestCase):
     def test_both_programs(self):
         result = self.ran('emulate', data=PLAIN)
         self.assertEqual((result.returncode, result.stdout), (0, emulate(PLAIN)))
-        data = asm.replay_input(image_of(busy(80)), [[NOP], [], []], 5)
-        result = self.ran('replay', data=data)
-        self.assertEqual((result.returncode, result.stdout), (0, replay(data)))
+        data = asm.resume_input(image_of(busy(80)), [[NOP], [], []], 5)
+        result = self.ran('resume', data=data)
+        self.assertEqual((result.returncode, result.stdout), (0, resume(data)))
 
     def test_other_arguments(self):
         for arguments in ((), ('other',), ('emulate', 'more')):

@@ -23,13 +23,13 @@ use Rattle.records.specs.declared.fixed.CursorRecord.{CursorRecord}
 use Rattle.records.specs.declared.fixed.CursorRecord.the-variants.{Place, NoPlace}
 use Rattle.records.specs.declared.script.ScriptRead.{ScriptRead}
 use Rattle.records.specs.declared.script.ScriptRead.the-variants.{Sound, BadAt}
-use Rattle.records.specs.declared.replay_script.ReplayRead.{ReplayRead}
-use Rattle.records.specs.declared.replay_script.ReplayRead.the-variants.{Whole, Faulty}
+use Rattle.records.specs.declared.resume_script.ResumeRead.{ResumeRead}
+use Rattle.records.specs.declared.resume_script.ResumeRead.the-variants.{Whole, Faulty}
 use Rattle.records.specs.Head.{bodyLength, recordKind, bodyOf, sameBody, hasBody}
 use Rattle.records.specs.Counts.{inWords, wordsRecordOf, past, afterSecond, afterFirst, fromStart, countsOf, wordsEnd}
 use Rattle.records.specs.Fixed.{budgetRecordOf, cursorRecordOf}
 use Rattle.records.specs.Script.{afterBudget, afterWords, bodyMost, scriptOf}
-use Rattle.records.specs.ReplayScript.{afterPlace, afterAnyBudget, afterStreams, streamBytes, replayScriptOf}
+use Rattle.records.specs.ResumeScript.{afterPlace, afterAnyBudget, afterStreams, streamBytes, resumeScriptOf}
 use Rattle.records.proofs.Fits.{few, count-facts}
 
 module _ (more : List ℕ) where
@@ -138,8 +138,8 @@ module _ (l more : List ℕ) (long : length l ≡ 12317) where
   unfolding scriptOf
   script-longer = rw (counts-longer more bodyMost l (omega arith)) (after-longer (countsOf bodyMost l) refl)
 
--- the same of `replay`
-abbrev pub Unsound : ReplayRead → Type 0
+-- the same of `resume`
+abbrev pub Unsound : ResumeRead → Type 0
 Unsound (Whole s) = ⊥
 Unsound (Faulty n) = Unit
 
@@ -165,6 +165,6 @@ module _ (l more : List ℕ) (long : length l ≡ 786483) where
       rw (budget-at more wordMost (wordsEnd c) l (omega arith)) (budget-ends c (budgetRecordOf wordMost (drop (wordsEnd c) l)) (omega arith))
   streams-longer (NotCounted n) e = (refl, tt)
 
-  pub replay-longer : (replayScriptOf (l ++ more) ≡ replayScriptOf l) × Unsound (replayScriptOf l)
-  unfolding replayScriptOf
-  replay-longer = rw (counts-longer more streamBytes l (omega arith)) (streams-longer (countsOf streamBytes l) refl)
+  pub resume-longer : (resumeScriptOf (l ++ more) ≡ resumeScriptOf l) × Unsound (resumeScriptOf l)
+  unfolding resumeScriptOf
+  resume-longer = rw (counts-longer more streamBytes l (omega arith)) (streams-longer (countsOf streamBytes l) refl)

@@ -17,13 +17,13 @@ use Rattle.records.specs.declared.fixed.CursorRecord.the-variants.{Place
 use Rattle.records.specs.declared.script.Script.{Script}
 use Rattle.records.specs.declared.script.ScriptRead.{ScriptRead}
 use Rattle.records.specs.declared.script.ScriptRead.the-variants.{Sound, BadAt}
-use Rattle.records.specs.declared.replay_script.ReplayScript.{ReplayScript}
-use Rattle.records.specs.declared.replay_script.ReplayRead.{ReplayRead}
-use Rattle.records.specs.declared.replay_script.ReplayRead.the-variants.{Whole, Faulty}
+use Rattle.records.specs.declared.resume_script.ResumeScript.{ResumeScript}
+use Rattle.records.specs.declared.resume_script.ResumeRead.{ResumeRead}
+use Rattle.records.specs.declared.resume_script.ResumeRead.the-variants.{Whole, Faulty}
 use Rattle.records.specs.Counts.{countsOf, wordsEnd}
 use Rattle.records.specs.Fixed.{budgetRecordOf, cursorRecordOf}
 use Rattle.records.specs.Script.{afterBudget, afterWords, bodyMost, scriptOf}
-use Rattle.records.specs.ReplayScript.{afterPlace, afterAnyBudget, afterStreams, streamBytes, replayScriptOf}
+use Rattle.records.specs.ResumeScript.{afterPlace, afterAnyBudget, afterStreams, streamBytes, resumeScriptOf}
 use Rattle.records.proofs.Fits.{CountFacts, count-facts, count-near}
 
 -- the counts that were read are the script's
@@ -45,8 +45,8 @@ pub sound-facts : (bs : List ℕ) (s : Script) → scriptOf bs ≡ Sound s → C
 unfolding scriptOf
 sound-facts bs s e = sound-of bs (countsOf bodyMost bs) s refl e
 
--- the same of `replay`
-abbrev Holds : Counts → ReplayRead → Type 0
+-- the same of `resume`
+abbrev Holds : Counts → ResumeRead → Type 0
 Holds c (Whole s) = c ≡ s .counts
 Holds c (Faulty n) = n ≤ wordsEnd c + 32
 
@@ -58,14 +58,14 @@ holds-budget : (bs : List ℕ) (c : Counts) (r : BudgetRecord) → Holds c (afte
 holds-budget bs c (Budget b) = holds-place bs c b (cursorRecordOf (drop (wordsEnd c + 10) bs))
 holds-budget bs c NoBudget = omega arith
 
-whole-of : (bs : List ℕ) (r : CountsRead) (s : ReplayScript) → countsOf streamBytes bs ≡ r → afterStreams bs r ≡ Whole s → CountFacts streamBytes bs (s .counts)
+whole-of : (bs : List ℕ) (r : CountsRead) (s : ResumeScript) → countsOf streamBytes bs ≡ r → afterStreams bs r ≡ Whole s → CountFacts streamBytes bs (s .counts)
 whole-of bs (Counted c) s p e =
     let h : c ≡ s .counts = subst (Holds c) e (holds-budget bs c (budgetRecordOf wordMost (drop (wordsEnd c) bs))) in
     subst (CountFacts streamBytes bs) h (count-facts streamBytes bs c p)
 whole-of bs (NotCounted n) s p e = let z : _≡_ {A = ℕ} 0 1 = cc in absurd (omega arith)
 
-pub whole-facts : (bs : List ℕ) (s : ReplayScript) → replayScriptOf bs ≡ Whole s → CountFacts streamBytes bs (s .counts)
-unfolding replayScriptOf
+pub whole-facts : (bs : List ℕ) (s : ResumeScript) → resumeScriptOf bs ≡ Whole s → CountFacts streamBytes bs (s .counts)
+unfolding resumeScriptOf
 whole-facts bs s e = whole-of bs (countsOf streamBytes bs) s refl e
 
 -- and where they are bad, that is within reach
@@ -76,6 +76,6 @@ near-of bs (Counted c) n p e =
     omega arith
 near-of bs (NotCounted k) n p e = let h : k ≡ n = cc in let g = count-near streamBytes bs k p in omega arith
 
-pub faulty-near : (bs : List ℕ) (n : ℕ) → replayScriptOf bs ≡ Faulty n → n ≤ 1000000
-unfolding replayScriptOf
+pub faulty-near : (bs : List ℕ) (n : ℕ) → resumeScriptOf bs ≡ Faulty n → n ≤ 1000000
+unfolding resumeScriptOf
 faulty-near bs n e = near-of bs (countsOf streamBytes bs) n refl e

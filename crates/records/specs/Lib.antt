@@ -2,4 +2,4 @@ pub mod Head
 pub mod Counts
 pub mod Fixed
 pub mod Script
-pub mod ReplayScript
+pub mod ResumeScript

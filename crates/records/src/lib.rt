@@ -3,6 +3,6 @@
 pub mod counts;
 pub mod fixed;
 pub mod head;
-pub mod replay_script;
+pub mod resume_script;
 pub mod script;
 pub mod words;

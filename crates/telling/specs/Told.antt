@@ -1,4 +1,4 @@
--- What the program `replay` prints of a run.
+-- What the program `resume` prints of a run.
 use Prim.Native.Nat.{ℕ}
 use mathlib.Core.Bool.{Bool, true, false, cond}
 use mathlib.Core.List.{List, _++_}

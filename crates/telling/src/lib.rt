@@ -1,4 +1,4 @@
-// What the program `replay` prints of a run: its lines and an image.
+// What the program `resume` prints of a run: its lines and an image.
 ghost use mathlib.Core.Path.{_≡_};
 ghost use mathlib.Core.Bool.{true};
 ghost use mathlib.Core.List.{_++_};

@@ -1,0 +1,101 @@
+-- What is printed, by what came of loading the image and of reading the records.
+use Prim.Native.Nat.{ℕ, _+_, _≤_}
+use mathlib.Core.Path.{_≡_, refl, sym, ap, _∙_}
+use mathlib.Core.Bool.{Bool, true, false, cond}
+use mathlib.Core.List.{List}
+use native.Mathlib.Omega.{arith}
+use lib.ListN.{length}
+use Rattle.bits.specs.Bytes.{Bytes}
+use Rattle.bits.proofs.Choices.{and-left}
+use Rattle.machine.specs.declared.refusal.Refusal.{Refusal}
+use Rattle.machine.specs.declared.refusal.Refusal.the-variants.{BadImage}
+use Rattle.machine.specs.Machine.{Machine}
+use Rattle.machine.specs.Formed.{sized, formed, wellFormed}
+use Rattle.machine.specs.Fresh.{freshMachine}
+use Rattle.machine.proofs.FreshLaws.{fresh-formed}
+use Rattle.format.specs.Format.{accepts}
+use Rattle.image.specs.declared.LoadAnswer.{LoadAnswer}
+use Rattle.image.specs.declared.LoadAnswer.the-variants.{Taken, NotLoaded}
+use Rattle.layout.specs.Image.{image, imageSize}
+use Rattle.image.specs.Calls.{Loading, loading, loadAnswer, machineLoaded, loadOf}
+use Rattle.image.proofs.Answers.{taken-means}
+use Rattle.image.proofs.Trips.{round-trips}
+use Rattle.turns.specs.Streams.{Streams}
+use Rattle.run_rules.specs.Run.{runOf, summaryOf}
+use Rattle.records.specs.declared.resume_script.ResumeScript.{ResumeScript}
+use Rattle.records.specs.declared.resume_script.ResumeRead.{ResumeRead}
+use Rattle.records.specs.declared.resume_script.ResumeRead.the-variants.{Whole, Faulty}
+use Rattle.records.specs.Counts.{streamsOf}
+use Rattle.records.specs.ResumeScript.{resumeScriptOf}
+use Rattle.records.proofs.Sound.{whole-facts}
+use Rattle.report.specs.Words.{badRecordWord, badImageWord}
+use Rattle.report.specs.Lines.{numberLine}
+use Rattle.telling.specs.Told.{toldOf}
+use Rattle.resuming.specs.Resume.{imageMachine, imageGood, imageFine, resumeRun, byRecords, recordsOf, partsOf}
+
+-- the run, of streams that go by a name
+pub named-run : (tail : List ℕ) (m : Machine) (s : ResumeScript) (w : Streams) → w ≡ streamsOf tail (s .counts) →
+    summaryOf (runOf w m (s .cursor) (s .budget)) ≡ resumeRun tail m s
+unfolding resumeRun
+named-run tail m s w e = rw e
+
+-- streams of the most words have room for a script's
+pub record Fits (s : ResumeScript) : Type 0 where
+  pub few0 : (w : List ℕ) → length w ≡ 65536 → s .counts .n0 ≤ length w
+  pub few1 : (w : List ℕ) → length w ≡ 65536 → s .counts .n1 ≤ length w
+  pub few2 : (w : List ℕ) → length w ≡ 65536 → s .counts .n2 ≤ length w
+
+pub whole-fits : (tail : List ℕ) (s : ResumeScript) → resumeScriptOf tail ≡ Whole s → Fits s
+whole-fits tail s e =
+    let f = whole-facts tail s e in
+    record {
+      few0 = λ w h. omega (arith, f .few0);
+      few1 = λ w h. omega (arith, f .few1);
+      few2 = λ w h. omega (arith, f .few2);
+    }
+
+module _ (came tail : List ℕ) (m : Machine) (r : ResumeRead) (e : r ≡ resumeScriptOf tail) where
+  by-read : byRecords came tail m r ≡ recordsOf came tail m
+  unfolding recordsOf
+  by-read = ap (λ (x : ResumeRead). byRecords came tail m x) e
+
+  pub records-bad : (n : ℕ) → r ≡ Faulty n → numberLine badRecordWord (imageSize + n) ≡ recordsOf came tail m
+  records-bad n h = sym (ap (λ (x : ResumeRead). byRecords came tail m x) h) ∙ by-read
+
+  pub records-whole : (s : ResumeScript) → r ≡ Whole s → toldOf came (resumeRun tail m s) (s .counts) ≡ recordsOf came tail m
+  records-whole s h = sym (ap (λ (x : ResumeRead). byRecords came tail m x) h) ∙ by-read
+
+-- an image that was not taken, into parts of the right sizes, is a bad one
+bad-means : (fine : Bool) (g : ℕ) (r : Refusal) → cond fine Taken (NotLoaded (BadImage g)) ≡ NotLoaded r → (fine ≡ false) × (r ≡ BadImage g)
+bad-means true g r e = let z : _≡_ {A = ℕ} 0 1 = cc in absurd (omega arith)
+bad-means false g r e = (refl, cc)
+
+fresh-sized : sized freshMachine ≡ true
+fresh-sized = and-left (sized freshMachine) (formed freshMachine) fresh-formed
+
+module _ (came tail : List ℕ) (a : LoadAnswer) (m : Machine) (e : loading a m ≡ loadOf came freshMachine) where
+  answered : a ≡ loadAnswer (sized freshMachine) came
+  unfolding loadOf
+  answered = ap (λ (x : Loading). x .answer) e
+
+  pub parts-bad : (r : Refusal) (n : ℕ) → ((at : ℕ) → r ≡ BadImage at → n ≡ at) → a ≡ NotLoaded r → numberLine badImageWord n ≡ partsOf came tail
+  unfolding partsOf imageFine imageGood loadAnswer
+  parts-bad r n f h =
+      let told : loadAnswer true came ≡ NotLoaded r = ap (λ (b : Bool). loadAnswer b came) (sym fresh-sized) ∙ sym answered ∙ h in
+      let b = bad-means (accepts image came) (image .good came) r told in
+      rw (b .0, f (image .good came) (b .1))
+
+  taken : a ≡ Taken → m ≡ image .get came
+  unfolding loadOf
+  taken h = ap (λ (x : Loading). x .machine) e ∙ ap (λ (x : LoadAnswer). machineLoaded x came freshMachine) (sym answered ∙ h)
+
+  pub parts-taken : a ≡ Taken → recordsOf came tail m ≡ partsOf came tail
+  unfolding partsOf imageFine imageMachine
+  parts-taken h =
+      let fine = taken-means (sized freshMachine) came (sym answered ∙ h) .1 in
+      rw fine (ap (λ (x : Machine). recordsOf came tail x) (taken h))
+
+  pub loaded-formed : a ≡ Taken → Bytes came → wellFormed m ≡ true
+  loaded-formed h b =
+      ap (λ (x : Loading). wellFormed (x .machine)) e
+      ∙ round-trips .formed came freshMachine b (sym (ap (λ (x : Loading). x .answer) e) ∙ h)
