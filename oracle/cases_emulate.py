@@ -18,6 +18,7 @@ RUNS = {
     'finished_empty': ([[], [], []], 0),
     'finished_at_budget': ([[NOP], [NOP], [NOP]], 3),
     'finished_full_stream': ([[NOP] * 1024, [], []], 1000000),
+    'finished_longest': ([[NOP] * 1024] * 3, 1000000),
     'budget': ([[NOP] * 9, [NOP] * 9, [NOP] * 9], 10),
     'budget_zero': ([[NOP], [], []], 0),
     'budget_before_stuck': ([[asm.trnspsrcb()], [], []], 2),
@@ -56,6 +57,7 @@ BAD = {
     'bad_budget_cut': PLAIN[:39],
     'bad_extra': PLAIN + b'\0',
     'bad_extra_record': PLAIN + PLAIN,
+    'bad_longest_extra': asm.emulate_input(*RUNS['finished_longest']) + b'\0',  # 12,317 bytes
     'bad_kind': swapped(PLAIN, 14, 34),
     'bad_order': PLAIN[10:20] + PLAIN[:10] + PLAIN[20:],
     'bad_twice': PLAIN[:10] + PLAIN,

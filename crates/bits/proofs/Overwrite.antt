@@ -51,3 +51,8 @@ wrote-then {A} {l} {m} {n} {k} {j} {i} {a} {b} p q h =
       placed = q .placed ∙ rw (p .placed, length-append a b) (add-assoc k (length a) (length b));
       list = over-then l m n k j a b h (p .list) (sym (p .placed)) (q .list);
     }
+
+-- what is written ends within the list
+pub wrote-within : {A : Type 0} {l m : List A} {k n : ℕ} {vs : List A} → Wrote l k vs m n → k ≤ length l → n ≤ length m
+unfolding over
+wrote-within w h = rw (w .placed, w .list) (simp (length-append, length-take, length-drop) (omega arith))

@@ -1,21 +1,18 @@
 // Reads a kernel from standard input, runs it on a fresh machine and prints how it ended.
+ghost use mathlib.Core.Path.{_≡_};
+ghost use Prim.Native.Nat.{_≤_};
+ghost use lib.ListN.{length};
+ghost use Rattle.emulation.specs.Emulation.{bytesRead};
 use libc::STDIN_FILENO;
 use libc::STDOUT_FILENO;
 
-// Writes the first m bytes.
-fn write_start(out: &[u8], m: usize) {
-    if m <= out.len() {
-        io::write_all(STDOUT_FILENO, &out[..m]);
-    }
-}
-
-// Answers the input read, in the room lent for it.
-fn answer(room: &mut [u8], out: &mut [u8]) {
+// Answers the input. The room that it is read into has just the bytes of which `LongInputs` says that no further one counts.
+fn answer(room: &mut [u8], out: &mut [u8])
+    requires { ⌜ (length (now room) ≡ bytesRead) × (400 ≤ length (now out)) ⌝ }
+{
     let n = io::read_full(STDIN_FILENO, room);
-    if 400 <= out.len() {
-        let m = emulation::emulate(&room[..n], out);
-        write_start(out, m);
-    }
+    let m = emulation::emulate(&room[..n], out);
+    io::write_all(STDOUT_FILENO, &out[..m]);
 }
 
 fn main() {

@@ -1,23 +1,20 @@
 // Reads an image and what is to run on it from standard input, runs it and prints how it ended and the image after it.
+ghost use mathlib.Core.Path.{_≡_};
+ghost use Prim.Native.Nat.{_≤_};
+ghost use lib.ListN.{length};
+ghost use Rattle.resuming.specs.Resume.{bytesRead};
 use libc::STDIN_FILENO;
 use libc::STDOUT_FILENO;
 use resuming::INPUT_BYTES;
 use resuming::OUTPUT_BYTES;
 
-// Writes the first m bytes.
-fn write_start(out: &[u8], m: usize) {
-    if m <= out.len() {
-        io::write_all(STDOUT_FILENO, &out[..m]);
-    }
-}
-
-// Answers the input read, in the room lent for it.
-fn answer(room: &mut [u8], out: &mut [u8]) {
+// Answers the input. The room that it is read into has just the bytes of which `LongInputs` says that no further one counts.
+fn answer(room: &mut [u8], out: &mut [u8])
+    requires { ⌜ (length (now room) ≡ bytesRead) × (49000 ≤ length (now out)) ⌝ }
+{
     let n = io::read_full(STDIN_FILENO, room);
-    if 49000 <= out.len() {
-        let m = resuming::resume(&room[..n], out);
-        write_start(out, m);
-    }
+    let m = resuming::resume(&room[..n], out);
+    io::write_all(STDOUT_FILENO, &out[..m]);
 }
 
 // The same, in arrays that are lent whole.
