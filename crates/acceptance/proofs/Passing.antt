@@ -2,25 +2,24 @@
 use Prim.Native.Nat.{ℕ, _<_}
 use mathlib.Core.Path.{_≡_, refl, sym, ap, _∙_}
 use mathlib.Core.Bool.{Bool, true, not}
+use mathlib.Core.List.{List}
 use Rattle.bits.proofs.Choices.{and-left, and-right}
-use Rattle.machine.specs.declared.refusal.Outcome.the-variants.{Refused}
-use Rattle.machine.specs.declared.refusal.Refusal.{Refusal}
 use Rattle.machine.specs.Formed.{sized, formed, wellFormed}
 use Rattle.machine.specs.Machine.{Machine}
+use Rattle.answers.specs.declared.Access.the-variants.{Granted}
+use Rattle.answers.specs.Answers.{accepted, refused, told}
 use Rattle.word_rules.specs.declared.instruction.ConfigWord.{ConfigWord}
 use Rattle.word_rules.specs.declared.instruction.ScalarWord.{ScalarWord}
 use Rattle.word_rules.specs.declared.instruction.Instruction.{Instruction}
 use Rattle.word_rules.specs.declared.instruction.Instruction.the-variants.{Scalar, Config}
-use Rattle.word_rules.specs.declared.instruction.Decoded.the-variants.{Decodes, Rejects}
 use Rattle.word_rules.specs.Decode.{decodeOf}
 use Rattle.offers.specs.Offer.{Gate, Open, waitFirst}
 use Rattle.gate.specs.Gate.{gateOf}
-use Rattle.step_rules.specs.declared.CallCheck.the-variants.{Fine}
 use Rattle.step_rules.specs.Step.{stepped, passOf, byGate, gatedOf, checkOf, stepOf}
 use Rattle.step_rules.proofs.Ways.{offered-as, check-fine, call-offered}
 use Rattle.acceptance.specs.Worked.{Ready}
 
-fine : (m : Machine) (t : ℕ) → wellFormed m ≡ true → t < 3 → Fine ≡ checkOf m t
+fine : (m : Machine) (t : ℕ) → wellFormed m ≡ true → t < 3 → told Granted ≡ checkOf m t
 fine m t e h =
     let s = and-left (sized m) (formed m) e in
     let f = and-right (sized m) (formed m) e in
@@ -30,24 +29,24 @@ gate-open : (m : Machine) (t : ℕ) (i : Instruction) → gateOf (m .control) t 
 unfolding gatedOf
 gate-open m t i g = ap (λ (x : Gate). byGate m t i x) (sym g)
 
-passing : (m : Machine) (t w : ℕ) (i : Instruction) → wellFormed m ≡ true → t < 3 → decodeOf w ≡ Decodes i →
+passing : (m : Machine) (t w : ℕ) (i : Instruction) → wellFormed m ≡ true → t < 3 → decodeOf w ≡ accepted i →
     gateOf (m .control) t i ≡ Open → stepOf m t w ≡ passOf m t i
 passing m t w i e h d g =
-    let offered = gate-open m t i g ∙ offered-as m t w (Decodes i) d in
-    sym (call-offered m t (checkOf m t) refl w (passOf m t i) (sym (fine m t e h)) offered)
+    let offered = gate-open m t i g ∙ offered-as m t w (accepted i) d in
+    sym (call-offered m t Granted (fine m t e h) w (passOf m t i) refl offered)
 
-pub refusing : (m : Machine) (t w : ℕ) (r : Refusal) → wellFormed m ≡ true → t < 3 → decodeOf w ≡ Rejects r →
-    stepOf m t w ≡ stepped (Refused r) m
-refusing m t w r e h d =
-    let offered = offered-as m t w (Rejects r) d in
-    sym (call-offered m t (checkOf m t) refl w (stepped (Refused r) m) (sym (fine m t e h)) offered)
+pub refusing : (m : Machine) (t w n : ℕ) (vs : List ℕ) → wellFormed m ≡ true → t < 3 → decodeOf w ≡ refused n vs →
+    stepOf m t w ≡ stepped (refused n vs) m
+refusing m t w n vs e h d =
+    let offered = offered-as m t w (refused n vs) d in
+    sym (call-offered m t Granted (fine m t e h) w (stepped (refused n vs) m) refl offered)
 
-pub scalar-passes : (m : Machine) (t w : ℕ) (s : ScalarWord) → Ready 5 m t → decodeOf w ≡ Decodes (Scalar s) → stepOf m t w ≡ passOf m t (Scalar s)
+pub scalar-passes : (m : Machine) (t w : ℕ) (s : ScalarWord) → Ready 5 m t → decodeOf w ≡ accepted (Scalar s) → stepOf m t w ≡ passOf m t (Scalar s)
 unfolding gateOf
 scalar-passes m t w s r d =
     passing m t w (Scalar s) (r .formed) (r .thread) d (ap (λ (b : Bool). waitFirst b Open) (r .unstalled))
 
-pub config-passes : (m : Machine) (t w : ℕ) (s : ConfigWord) → Ready 7 m t → decodeOf w ≡ Decodes (Config s) → stepOf m t w ≡ passOf m t (Config s)
+pub config-passes : (m : Machine) (t w : ℕ) (s : ConfigWord) → Ready 7 m t → decodeOf w ≡ accepted (Config s) → stepOf m t w ≡ passOf m t (Config s)
 unfolding gateOf
 config-passes m t w s r d =
     passing m t w (Config s) (r .formed) (r .thread) d (ap (λ (b : Bool). waitFirst b Open) (r .unstalled))

@@ -10,19 +10,18 @@ use borrow.Author.Tests.{le-ltb, le-leb}
 use Rattle.bits.specs.Field.{field, withByte, withLow}
 use Rattle.bits.specs.Overwrite.{over}
 use Rattle.machine.specs.declared.units.GprNumber.{GprNumber}
-use Rattle.machine.specs.declared.refusal.Outcome.the-variants.{Refused}
-use Rattle.machine.specs.declared.refusal.Refusal.the-variants.{BadField}
 use Rattle.machine.specs.Formed.{wellFormed}
-use Rattle.machine.specs.Numbers.{numberOf}
 use Rattle.machine.specs.Sizes.{configCount, destCount, markCount}
 use Rattle.machine.specs.Machine.{Machine}
 use Rattle.machine.specs.Units.{gpr, halfRegister}
+use Rattle.answers.specs.Answers.{accepted, refused}
+use Rattle.answers.specs.Answers as answers
+use Rattle.dest.proofs.Examples.{worked}
 use Rattle.word_rules.specs.declared.instruction.Operand.the-variants.{Constant, Register}
 use Rattle.word_rules.specs.declared.instruction.ScalarWord.{ScalarWord}
 use Rattle.word_rules.specs.declared.instruction.ScalarWord.the-variants.{SetDmaReg, AddDmaReg, MulDmaReg}
 use Rattle.word_rules.specs.declared.instruction.ConfigWord.the-variants.{WrCfg, RmwCib}
 use Rattle.word_rules.specs.declared.instruction.Instruction.the-variants.{Scalar, Config}
-use Rattle.word_rules.specs.declared.instruction.Decoded.the-variants.{Decodes}
 use Rattle.word_rules.specs.Decode.{decodeOf}
 use Rattle.word_rules.proofs.Examples.{low-half-of-four, add-constant, multiply-registers, second-byte, last-index, past-last-index, four-words}
 use Rattle.control.specs.After.{controlAfter}
@@ -34,14 +33,11 @@ use Rattle.effects.specs.Marks.{marksAfter}
 use Rattle.effects.specs.Settings.{bankOf}
 use Rattle.effects.specs.Sources.{srcAAfter, srcBAfter}
 use Rattle.step_rules.specs.Step.{passOf, machineAfter, stepped, stepOf}
-use Rattle.dest.proofs.Examples.{worked}
-use Rattle.answers.specs.Answers.{accepted, refused}
-use Rattle.answers.specs.Answers as answers
-use Rattle.dest_access.specs.DestRows.{DestStore, bankCheck, readRow32Of}
 use Rattle.expander.specs.declared.Carried.{Carried}
 use Rattle.expander.specs.Stream.{Emission, emission, streamOf, freshCarried}
 use Rattle.expander.specs.Call.{call, badLength, badRounds, shortOutput, doneWith, expandOf, anyTemplate1}
 use Rattle.expander.proofs.Examples.{examples}
+use Rattle.dest_access.specs.DestRows.{DestStore, bankCheck, readRow32Of}
 use Rattle.acceptance.specs.Worked.{Ready, Worked, leavesGprs, leavesConfig, place, gprIn, wordPlace, wordIn}
 use Rattle.acceptance.proofs.Passing.{refusing, scalar-passes, config-passes}
 
@@ -60,11 +56,11 @@ merge-leaves : (m : Machine) (t byte mask value index : ℕ) →
 unfolding machineAfter controlAfter settingsAfter storesAfter gprsAfter configAfter marksAfter srcAAfter srcBAfter
 merge-leaves m t byte mask value index = refl
 
-does-scalar : (m : Machine) (t w : ℕ) (s : ScalarWord) → Ready 5 m t → decodeOf w ≡ Decodes (Scalar s) →
+does-scalar : (m : Machine) (t w : ℕ) (s : ScalarWord) → Ready 5 m t → decodeOf w ≡ accepted (Scalar s) →
     stepOf m t w ≡ leavesGprs m t (scalarGprs s t (m .kept .gprs))
 does-scalar m t w s r d = scalar-passes m t w s r d ∙ scalar-leaves m t s
 
-does-copy : (m : Machine) (t w : ℕ) (g : GprNumber) (wide : Bool) (index : ℕ) → Ready 7 m t → decodeOf w ≡ Decodes (Config (WrCfg g wide index)) →
+does-copy : (m : Machine) (t w : ℕ) (g : GprNumber) (wide : Bool) (index : ℕ) → Ready 7 m t → decodeOf w ≡ accepted (Config (WrCfg g wide index)) →
     stepOf m t w ≡ leavesConfig m t (configWords (WrCfg g wide index) t (bankOf (m .settings) t) (m .kept .gprs) (m .kept .config))
 does-copy m t w g wide index r d = config-passes m t w (WrCfg g wide index) r d ∙ copy-leaves m t g wide index
 
@@ -92,8 +88,8 @@ merges m t r e =
 last-word : (m : Machine) (t : ℕ) → Ready 7 m t → stepOf m t 0xB00000FF ≡ leavesConfig m t (set (m .kept .config) (wordPlace m t 255) (gprIn m t 0))
 last-word m t r = does-copy m t 0xB00000FF (gpr 0) false 255 r last-index
 
-past-last : (m : Machine) (t : ℕ) → wellFormed m ≡ true → t < 3 → (stepOf m t 0xB0000100 ≡ stepped (Refused BadField) m) × (numberOf BadField ≡ 3)
-past-last m t e h = (refusing m t 0xB0000100 BadField e h past-last-index, refl)
+past-last : (m : Machine) (t : ℕ) → wellFormed m ≡ true → t < 3 → stepOf m t 0xB0000100 ≡ stepped (refused 3 []) m
+past-last m t e h = refusing m t 0xB0000100 3 [] e h past-last-index
 
 copies-four : (m : Machine) (t : ℕ) → Ready 7 m t →
     stepOf m t 0xB0078009 ≡

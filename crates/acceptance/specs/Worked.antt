@@ -6,26 +6,24 @@ use mathlib.Core.List.{List, [], _∷_}
 use lib.ListN.{length, set, getD}
 use Rattle.bits.specs.Field.{flag, withLow}
 use Rattle.bits.specs.Overwrite.{over}
-use Rattle.machine.specs.declared.refusal.Outcome.the-variants.{Passed, Refused}
-use Rattle.machine.specs.declared.refusal.Refusal.the-variants.{BadField}
 use Rattle.machine.specs.Control.{waitOf}
 use Rattle.machine.specs.Formed.{wellFormed}
 use Rattle.machine.specs.Machine.{Machine, machine, stores}
-use Rattle.machine.specs.Numbers.{numberOf}
 use Rattle.machine.specs.Sizes.{configCount, destCount, markCount}
 use Rattle.machine.specs.Units.{gpr, gprPlace}
+use Rattle.answers.specs.Answers.{accepted, refused, call}
+use Rattle.answers.specs.Outcomes.{passed}
+use Rattle.dest.specs.Examples.{DestExamples}
 use Rattle.gate.specs.Waits.{waitBlock, holdsNow}
 use Rattle.control.specs.After.{dropLifted}
 use Rattle.effects.specs.Places.{configPlace}
 use Rattle.effects.specs.Settings.{bankOf}
 use Rattle.step_rules.specs.Step.{Step, stepped, stepOf}
-use Rattle.dest.specs.Examples.{DestExamples}
-use Rattle.answers.specs.Answers.{accepted, refused, call}
-use Rattle.dest_access.specs.DestRows.{DestStore, readRow32Of}
 use Rattle.expander.specs.declared.Carried.{Carried}
 use Rattle.expander.specs.Stream.{freshCarried}
 use Rattle.expander.specs.Call.{expandOf}
 use Rattle.expander.specs.Call as expanding
+use Rattle.dest_access.specs.DestRows.{DestStore, readRow32Of}
 
 -- a well-formed machine, one of its threads, and no wait of that thread that stalls words of block bit b
 pub record Ready (b : ℕ) (m : Machine) (t : ℕ) : Type 0 where
@@ -51,14 +49,14 @@ wordIn m t n = getD (m .kept .config) (wordPlace m t n) 0
 abbrev pub leavesGprs : Machine → ℕ → List ℕ → Step
 leavesGprs m t g =
     let k = m .kept in
-    stepped Passed
+    stepped (accepted passed)
     (machine (dropLifted (m .control) t (waitOf (m .control) t)) (m .settings) (stores g (k .config) (k .dest) (k .marks) (k .srcA) (k .srcB)))
 
 -- the same for Config words
 abbrev pub leavesConfig : Machine → ℕ → List ℕ → Step
 leavesConfig m t c =
     let k = m .kept in
-    stepped Passed
+    stepped (accepted passed)
     (machine (dropLifted (m .control) t (waitOf (m .control) t)) (m .settings) (stores (k .gprs) c (k .dest) (k .marks) (k .srcA) (k .srcB)))
 
 pub record Worked : Type 0 where
@@ -79,7 +77,7 @@ pub record Worked : Type 0 where
       stepOf m t 0xB00000FF ≡ leavesConfig m t (set (m .kept .config) (wordPlace m t 255) (gprIn m t 0))
   -- 0xB0000100 is 3, whatever the thread waits for
   pub m5-refused : (m : Machine) (t : ℕ) → wellFormed m ≡ true → t < 3 →
-      (stepOf m t 0xB0000100 ≡ stepped (Refused BadField) m) × (numberOf BadField ≡ 3)
+      stepOf m t 0xB0000100 ≡ stepped (refused 3 []) m
   -- 0xB0078009 copies GPRs 4–7 to words 8–11
   pub m6 : (m : Machine) (t : ℕ) → Ready 7 m t →
       stepOf m t 0xB0078009 ≡

@@ -1,7 +1,8 @@
--- What a call of the bench answers, and what it leaves.
+-- What a call answers, in document 01's numbers, and what it leaves.
 use Prim.Native.Nat.{ℕ}
 use mathlib.Core.Bool.{Bool, cond}
 use mathlib.Core.List.{List, []}
+use Rattle.machine.specs.declared.refusal.Refusal.{Refusal}
 use Rattle.machine.specs.Numbers.{numberOf, valuesOf}
 use Rattle.answers.specs.declared.Access.{Access}
 use Rattle.answers.specs.declared.Access.the-variants.{Granted, Denied}
@@ -11,9 +12,13 @@ pub data Told (A : Type 0) : Type 0 where
   accepted : A → Told A
   refused : ℕ → List ℕ → Told A
 
+-- a refusal of the code's
+abbrev pub refusal : {A : Type 0} → Refusal → Told A
+refusal r = refused (numberOf r) (valuesOf r)
+
 abbrev pub told : Access → Told (Unit {0})
 told Granted = accepted tt
-told (Denied r) = refused (numberOf r) (valuesOf r)
+told (Denied r) = refusal r
 
 -- refused by the number unless the test holds; the tests stand in the order of the numbers
 abbrev pub provided : {A : Type 0} → Bool → ℕ → Told A → Told A

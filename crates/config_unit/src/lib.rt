@@ -8,6 +8,7 @@ ghost use mathlib.Core.Path.{_≡_};
 ghost use Prim.Native.Nat.{ℕ, _<_};
 ghost use mathlib.Core.List.{List};
 ghost use lib.ListN.{length};
+ghost use Rattle.answers.specs.Outcomes.{toldOutcome};
 ghost use Rattle.word_rules.specs.ConfigWords.{wrCfgOf, rdCfgOf, setC16Of, rmwCibOf};
 ghost use Rattle.effects.specs.Offered.{ConfigOffered};
 use crate::moves::read_config;
@@ -40,7 +41,7 @@ pub fn wr_cfg(
     stalls: bool,
 ) -> Outcome
     requires { ⌜ (length (now settings) ≡ 192) × (length (now gprs) ≡ 192) × (length (now config) ≡ 512) × (t < 3) ⌝ }
-    ensures { λ r. ⌜ ConfigOffered stalls t (wrCfgOf word) (now (settings .entry)) (now (gprs .entry)) (now (config .entry)) r (now (settings .entry)) (now (gprs .entry)) (now (config .exit)) ⌝ }
+    ensures { λ r. ⌜ ConfigOffered stalls t (wrCfgOf word) (now (settings .entry)) (now (gprs .entry)) (now (config .entry)) (toldOutcome r) (now (settings .entry)) (now (gprs .entry)) (now (config .exit)) ⌝ }
 {
     let past = index_past(word);
     if stopped(false, past, stalls) {
@@ -61,7 +62,7 @@ pub fn rd_cfg(
     stalls: bool,
 ) -> Outcome
     requires { ⌜ (length (now settings) ≡ 192) × (length (now gprs) ≡ 192) × (length (now config) ≡ 512) × (t < 3) ⌝ }
-    ensures { λ r. ⌜ ConfigOffered stalls t (rdCfgOf word) (now (settings .entry)) (now (gprs .entry)) (now (config .entry)) r (now (settings .entry)) (now (gprs .exit)) (now (config .entry)) ⌝ }
+    ensures { λ r. ⌜ ConfigOffered stalls t (rdCfgOf word) (now (settings .entry)) (now (gprs .entry)) (now (config .entry)) (toldOutcome r) (now (settings .entry)) (now (gprs .exit)) (now (config .entry)) ⌝ }
 {
     let past = target_or_index_past(word);
     if stopped(false, past, stalls) {
@@ -75,7 +76,7 @@ pub fn rd_cfg(
 // SETC16.
 pub fn set_c16(settings: &mut [u16], t: usize, word: u32, stalls: bool) -> Outcome
     requires { ⌜ (length (now settings) ≡ 192) × (t < 3) ⌝ }
-    ensures { λ r. ⌜ ((gprs config : List ℕ) → ConfigOffered stalls t (setC16Of word) (now (settings .entry)) gprs config r (now (settings .exit)) gprs config) ⌝ }
+    ensures { λ r. ⌜ ((gprs config : List ℕ) → ConfigOffered stalls t (setC16Of word) (now (settings .entry)) gprs config (toldOutcome r) (now (settings .exit)) gprs config) ⌝ }
 {
     if stalls {
         return verdict(false, false, stalls);
@@ -94,7 +95,7 @@ pub fn rmw_cib(
     stalls: bool,
 ) -> Outcome
     requires { ⌜ (length (now settings) ≡ 192) × (length (now config) ≡ 512) × (t < 3) × (byte < 4) ⌝ }
-    ensures { λ r. ⌜ ((gprs : List ℕ) → ConfigOffered stalls t (rmwCibOf byte word) (now (settings .entry)) gprs (now (config .entry)) r (now (settings .entry)) gprs (now (config .exit))) ⌝ }
+    ensures { λ r. ⌜ ((gprs : List ℕ) → ConfigOffered stalls t (rmwCibOf byte word) (now (settings .entry)) gprs (now (config .entry)) (toldOutcome r) (now (settings .entry)) gprs (now (config .exit))) ⌝ }
 {
     if stalls {
         return verdict(false, false, stalls);

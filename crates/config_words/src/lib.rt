@@ -4,6 +4,7 @@ ghost use mathlib.Core.Bool.{_||_};
 ghost use lib.Dec.{ltb};
 ghost use Rattle.bits.specs.Field.{field, flag};
 ghost use Rattle.machine.specs.Units.{gpr};
+ghost use Rattle.word_rules.specs.Refused.{toldDecoded};
 ghost use Rattle.word_rules.specs.ConfigWords.{wrCfgOf, rdCfgOf, setC16Of, rmwCibOf};
 ghost use Rattle.word_rules.specs.Units.{badWord, configRows};
 use machine::refusal::Refusal;
@@ -93,7 +94,7 @@ pub fn byte_index(word: u32) -> u16
 
 // WRCFG: the index's limit is on the index as written.
 fn wr_cfg(word: u32) -> Decoded
-    ensures { λ r. ⌜ r ≡ wrCfgOf word ⌝ }
+    ensures { λ r. ⌜ toldDecoded r ≡ wrCfgOf word ⌝ }
 {
     let says = Instruction::Config(ConfigWord::WrCfg {
         gpr: source(word),
@@ -105,7 +106,7 @@ fn wr_cfg(word: u32) -> Decoded
 
 // RDCFG.
 fn rd_cfg(word: u32) -> Decoded
-    ensures { λ r. ⌜ r ≡ rdCfgOf word ⌝ }
+    ensures { λ r. ⌜ toldDecoded r ≡ rdCfgOf word ⌝ }
 {
     let says = Instruction::Config(ConfigWord::RdCfg {
         gpr: target(word),
@@ -116,7 +117,7 @@ fn rd_cfg(word: u32) -> Decoded
 
 // SETC16.
 fn set_c16(word: u32) -> Decoded
-    ensures { λ r. ⌜ r ≡ setC16Of word ⌝ }
+    ensures { λ r. ⌜ toldDecoded r ≡ setC16Of word ⌝ }
 {
     Decoded::Decodes(Instruction::Config(ConfigWord::SetC16 {
         entry: entry(word),
@@ -126,7 +127,7 @@ fn set_c16(word: u32) -> Decoded
 
 // RMWCIB0 to RMWCIB3: the opcode says which byte.
 fn rmw_cib(word: u32, byte: u8) -> Decoded
-    ensures { λ r. ⌜ r ≡ rmwCibOf byte word ⌝ }
+    ensures { λ r. ⌜ toldDecoded r ≡ rmwCibOf byte word ⌝ }
 {
     Decoded::Decodes(Instruction::Config(ConfigWord::RmwCib {
         byte,
@@ -138,7 +139,7 @@ fn rmw_cib(word: u32, byte: u8) -> Decoded
 
 // What a word with an opcode of the config unit says; any other opcode is 2.
 pub fn decode_config(op: u32, word: u32) -> Decoded
-    ensures { λ r. ⌜ r ≡ configRows op word badWord ⌝ }
+    ensures { λ r. ⌜ toldDecoded r ≡ configRows op word badWord ⌝ }
 {
     match op {
         0xB0 => wr_cfg(word),

@@ -3,7 +3,8 @@ pub mod after;
 
 ghost use mathlib.Core.Path.{_≡_};
 ghost use Prim.Native.Nat.{_<_};
-ghost use Rattle.control.specs.Offered.{came, droppedOn};
+ghost use Rattle.answers.specs.Outcomes.{toldOutcome};
+ghost use Rattle.control.specs.Offered.{came, toldStepped, droppedOn};
 use crate::after::drop_if;
 use machine::control::Control;
 use machine::refusal::Outcome;
@@ -17,7 +18,7 @@ pub struct Stepped {
 // A word that leaves the control part alone, but that it drops a lifted wait if it passes. Internal: the thread is in range.
 pub fn finished(o: Outcome, c: Control, t: usize, drops: bool) -> Stepped
     requires { ⌜ t < 3 ⌝ }
-    ensures { λ r. ⌜ r ≡ came o (droppedOn o c t drops) ⌝ }
+    ensures { λ r. ⌜ toldStepped r ≡ came (toldOutcome o) (droppedOn (toldOutcome o) c t drops) ⌝ }
 {
     let passed = offers::has_passed(o);
     Stepped {

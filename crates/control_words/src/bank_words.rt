@@ -4,7 +4,7 @@ ghost use mathlib.Core.Bool.{true};
 ghost use Prim.Native.Nat.{_<_};
 ghost use Rattle.machine.specs.Formed.{controlFormed};
 ghost use Rattle.word_rules.specs.MatrixWords.{clearDValidOf, setDValidOf};
-ghost use Rattle.control.specs.Offered.{controlOffer, always};
+ghost use Rattle.control.specs.Offered.{toldStepped, controlOffer, always};
 use control::Stepped;
 use control::after::drop_if;
 use machine::control::Control;
@@ -20,7 +20,7 @@ use offers::verdict;
 // SETDVALID. Internal: the control part and the thread are in range.
 pub(crate) fn set_dvalid(c: Control, t: usize, word: u32, stalls: bool, drops: bool) -> Stepped
     requires { ⌜ (controlFormed c ≡ true) × (t < 3) ⌝ }
-    ensures { λ r. ⌜ r ≡ controlOffer (always stalls) drops c t (setDValidOf word) ⌝ }
+    ensures { λ r. ⌜ toldStepped r ≡ controlOffer (always stalls) drops c t (setDValidOf word) ⌝ }
 {
     if stalls {
         return Stepped {
@@ -38,7 +38,7 @@ pub(crate) fn set_dvalid(c: Control, t: usize, word: u32, stalls: bool, drops: b
 // CLEARDVALID. Internal: the control part and the thread are in range.
 pub(crate) fn clear_dvalid(c: Control, t: usize, word: u32, stalls: bool, drops: bool) -> Stepped
     requires { ⌜ (controlFormed c ≡ true) × (t < 3) ⌝ }
-    ensures { λ r. ⌜ r ≡ controlOffer (always stalls) drops c t (clearDValidOf word) ⌝ }
+    ensures { λ r. ⌜ toldStepped r ≡ controlOffer (always stalls) drops c t (clearDValidOf word) ⌝ }
 {
     if stalls {
         return Stepped {

@@ -11,7 +11,7 @@ ghost use Prim.Native.Nat.{_<_};
 ghost use Rattle.machine.specs.Formed.{controlFormed};
 ghost use Rattle.word_rules.specs.Units.{controlRows};
 ghost use Rattle.offers.specs.Offer.{namedBy};
-ghost use Rattle.control.specs.Offered.{controlOffer};
+ghost use Rattle.control.specs.Offered.{toldStepped, controlOffer};
 use crate::bank_words::clear_dvalid;
 use crate::bank_words::set_dvalid;
 use crate::mutex_words::at_get_m;
@@ -26,7 +26,7 @@ use machine::control::Control;
 // Internal: the control part and the thread are in range.
 pub fn control_word(c: Control, t: usize, op: u32, word: u32, blocks: u16, drops: bool) -> Stepped
     requires { ⌜ (controlFormed c ≡ true) × (t < 3) ⌝ }
-    ensures { λ r. ⌜ r ≡ controlOffer (namedBy blocks) drops c t (controlRows op word) ⌝ }
+    ensures { λ r. ⌜ toldStepped r ≡ controlOffer (namedBy blocks) drops c t (controlRows op word) ⌝ }
 {
     let sync = blocks / 2 % 2 == 1;
     let matrix = blocks / 64 % 2 == 1;

@@ -2,7 +2,7 @@
 ghost use mathlib.Core.Path.{_≡_};
 ghost use Prim.Native.Nat.{_<_};
 ghost use Rattle.word_rules.specs.SyncWords.{atGetMOf, atRelMOf};
-ghost use Rattle.control.specs.Offered.{controlOffer, always};
+ghost use Rattle.control.specs.Offered.{toldStepped, controlOffer, always};
 use control::Stepped;
 use control::after::drop_if;
 use control::after::release;
@@ -19,7 +19,7 @@ use sync_words::mutex_past;
 // ATGETM: takes a free one, passes if already its own, else waits. Internal: the thread is in range.
 pub(crate) fn at_get_m(c: Control, t: usize, word: u32, stalls: bool, drops: bool) -> Stepped
     requires { ⌜ t < 3 ⌝ }
-    ensures { λ r. ⌜ r ≡ controlOffer (always stalls) drops c t (atGetMOf word) ⌝ }
+    ensures { λ r. ⌜ toldStepped r ≡ controlOffer (always stalls) drops c t (atGetMOf word) ⌝ }
 {
     let past = mutex_past(word);
     if stopped(false, past, stalls) {
@@ -47,7 +47,7 @@ pub(crate) fn at_get_m(c: Control, t: usize, word: u32, stalls: bool, drops: boo
 // ATRELM: frees its own, else no effect. Internal: the thread is in range.
 pub(crate) fn at_rel_m(c: Control, t: usize, word: u32, stalls: bool, drops: bool) -> Stepped
     requires { ⌜ t < 3 ⌝ }
-    ensures { λ r. ⌜ r ≡ controlOffer (always stalls) drops c t (atRelMOf word) ⌝ }
+    ensures { λ r. ⌜ toldStepped r ≡ controlOffer (always stalls) drops c t (atRelMOf word) ⌝ }
 {
     let past = mutex_past(word);
     if stopped(false, past, stalls) {

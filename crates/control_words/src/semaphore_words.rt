@@ -1,7 +1,7 @@
 // SEMINIT, SEMPOST and SEMGET: each changes the semaphores of its mask.
 ghost use mathlib.Core.Path.{_≡_};
 ghost use Prim.Native.Nat.{_<_};
-ghost use Rattle.control.specs.Offered.{controlOffer, always};
+ghost use Rattle.control.specs.Offered.{toldStepped, controlOffer, always};
 ghost use Rattle.control_words.specs.Semaphores.{changeOf, isOther, changeRows};
 use control::Stepped;
 use control::after::change_semaphores;
@@ -51,7 +51,7 @@ pub(crate) fn change_word(
     drops: bool,
 ) -> Stepped
     requires { ⌜ t < 3 ⌝ }
-    ensures { λ r. ⌜ r ≡ controlOffer (always stalls) drops c t (changeRows op word) ⌝ }
+    ensures { λ r. ⌜ toldStepped r ≡ controlOffer (always stalls) drops c t (changeRows op word) ⌝ }
 {
     let other = is_other(op);
     if stopped(other, false, stalls) {

@@ -2,7 +2,7 @@
 ghost use mathlib.Core.Path.{_≡_};
 ghost use Prim.Native.Nat.{_<_};
 ghost use Rattle.word_rules.specs.SyncWords.{stallWaitOf, semWaitOf};
-ghost use Rattle.control.specs.Offered.{controlOffer, always};
+ghost use Rattle.control.specs.Offered.{toldStepped, controlOffer, always};
 use control::Stepped;
 use control::after::drop_if;
 use control::after::with_wait;
@@ -18,7 +18,7 @@ use sync_words::mask;
 // STALLWAIT. Internal: the thread is in range.
 pub(crate) fn stall_wait(c: Control, t: usize, word: u32, stalls: bool, drops: bool) -> Stepped
     requires { ⌜ t < 3 ⌝ }
-    ensures { λ r. ⌜ r ≡ controlOffer (always stalls) drops c t (stallWaitOf word) ⌝ }
+    ensures { λ r. ⌜ toldStepped r ≡ controlOffer (always stalls) drops c t (stallWaitOf word) ⌝ }
 {
     if stalls {
         return Stepped {
@@ -40,7 +40,7 @@ pub(crate) fn stall_wait(c: Control, t: usize, word: u32, stalls: bool, drops: b
 // SEMWAIT. Internal: the thread is in range.
 pub(crate) fn sem_wait(c: Control, t: usize, word: u32, stalls: bool, drops: bool) -> Stepped
     requires { ⌜ t < 3 ⌝ }
-    ensures { λ r. ⌜ r ≡ controlOffer (always stalls) drops c t (semWaitOf word) ⌝ }
+    ensures { λ r. ⌜ toldStepped r ≡ controlOffer (always stalls) drops c t (semWaitOf word) ⌝ }
 {
     if stalls {
         return Stepped {

@@ -1,8 +1,7 @@
 -- What the functions tell that look for the place of a call.
 use Rattle.dest.specs.declared.flags.Flags.{Flags}
 use Rattle.dest.specs.declared.rows.StorageRow.{StorageRow}
-use Rattle.machine.specs.Numbers.{numberOf, valuesOf}
-use Rattle.answers.specs.Answers.{Told, accepted, refused}
+use Rattle.answers.specs.Answers.{Told, accepted, refusal}
 use Rattle.dest_access.specs.DestRows.{HalfRows}
 use Rattle.dest_access.specs.declared.places.Setting.{Setting}
 use Rattle.dest_access.specs.declared.places.Setting.the-variants.{Set, NotSet}
@@ -13,12 +12,12 @@ use Rattle.dest_access.specs.declared.places.Place32.the-variants.{At32,
 
 abbrev pub toldFlags : Setting → Told Flags
 toldFlags (Set f) = accepted f
-toldFlags (NotSet r) = refused (numberOf r) (valuesOf r)
+toldFlags (NotSet r) = refusal r
 
 abbrev pub toldRow : Place16 → Told StorageRow
 toldRow (At16 q) = accepted q
-toldRow (Not16 r) = refused (numberOf r) (valuesOf r)
+toldRow (Not16 r) = refusal r
 
 abbrev pub toldRows : Place32 → Told HalfRows
 toldRows (At32 high low) = accepted (record { high = high; low = low })
-toldRows (Not32 r) = refused (numberOf r) (valuesOf r)
+toldRows (Not32 r) = refusal r

@@ -3,8 +3,8 @@ use Prim.Native.Nat.{ℕ}
 use mathlib.Core.Path.{_≡_, _∙_}
 use mathlib.Core.Bool.{Bool, true, false, _||_}
 use mathlib.Core.List.{List}
-use Rattle.machine.specs.declared.refusal.Outcome.{Outcome}
-use Rattle.machine.specs.declared.refusal.Outcome.the-variants.{Passed}
+use Rattle.answers.specs.Answers.{Told, accepted}
+use Rattle.answers.specs.Outcomes.{Progress, passed}
 use Rattle.word_rules.specs.declared.instruction.Instruction.{Instruction}
 use Rattle.word_rules.specs.Refused.{decodesUnless}
 use Rattle.offers.specs.Offer.{Gate, gateOutcome, ifOpen, waitOutcome, ownerGate}
@@ -18,13 +18,13 @@ use Rattle.effects.specs.After.{settingsAfter}
 use Rattle.effects.specs.Offered.{GprsOffered, ConfigOffered, MatrixOffered}
 
 module _ (a b s : Bool) (t : ℕ) (i : Instruction) (before : List ℕ) where
-  pub gprs-stopped : (o : Outcome) → (a || (b || s)) ≡ true → ((j : Instruction) → o ≡ waitOutcome s (decodesUnless a b j)) →
+  pub gprs-stopped : (o : Told Progress) → (a || (b || s)) ≡ true → ((j : Instruction) → o ≡ waitOutcome s (decodesUnless a b j)) →
       GprsOffered s t (decodesUnless a b i) before o before
   gprs-stopped o h e =
       record { outcome = e i; gprs = λ bank config. stopped-part i (λ j. Gate.Open) (λ j. gprsAfter j t bank config before) before a b s h }
 
   -- a word that leaves the GPRs alone
-  pub gprs-untouched : (o : Outcome) → ((j : Instruction) → o ≡ waitOutcome s (decodesUnless a b j)) →
+  pub gprs-untouched : (o : Told Progress) → ((j : Instruction) → o ≡ waitOutcome s (decodesUnless a b j)) →
       ((bank : ℕ) (config : List ℕ) → gprsAfter i t bank config before ≡ before) → GprsOffered s t (decodesUnless a b i) before o before
   gprs-untouched o e u =
       record {
@@ -33,7 +33,7 @@ module _ (a b s : Bool) (t : ℕ) (i : Instruction) (before : List ℕ) where
       }
 
   pub gprs-going : (after : List ℕ) → (a || (b || s)) ≡ false → ((bank : ℕ) (config : List ℕ) → after ≡ gprsAfter i t bank config before) →
-      GprsOffered s t (decodesUnless a b i) before Passed after
+      GprsOffered s t (decodesUnless a b i) before (accepted passed) after
   gprs-going after h e =
       record {
         outcome = going-outcome i (λ j. Gate.Open) a b s h;
@@ -41,7 +41,7 @@ module _ (a b s : Bool) (t : ℕ) (i : Instruction) (before : List ℕ) where
       }
 
 module _ (a b s : Bool) (t : ℕ) (i : Instruction) (u g k : List ℕ) where
-  pub config-stopped : (o : Outcome) → (a || (b || s)) ≡ true → ((j : Instruction) → o ≡ waitOutcome s (decodesUnless a b j)) →
+  pub config-stopped : (o : Told Progress) → (a || (b || s)) ≡ true → ((j : Instruction) → o ≡ waitOutcome s (decodesUnless a b j)) →
       ConfigOffered s t (decodesUnless a b i) u g k o u g k
   config-stopped o h e =
       record {
@@ -52,7 +52,7 @@ module _ (a b s : Bool) (t : ℕ) (i : Instruction) (u g k : List ℕ) where
       }
 
   pub config-going : (u' g' k' : List ℕ) → (a || (b || s)) ≡ false → u' ≡ settingsAfter i t u → g' ≡ gprsAfter i t (bankOf u t) k g →
-      k' ≡ configAfter i t (bankOf u t) g k → ConfigOffered s t (decodesUnless a b i) u g k Passed u' g' k'
+      k' ≡ configAfter i t (bankOf u t) g k → ConfigOffered s t (decodesUnless a b i) u g k (accepted passed) u' g' k'
   config-going u' g' k' h p q r =
       record {
         outcome = going-outcome i (λ j. Gate.Open) a b s h;
@@ -62,7 +62,7 @@ module _ (a b s : Bool) (t : ℕ) (i : Instruction) (u g k : List ℕ) where
       }
 
 module _ (p q s owned : Bool) (bank bankA bankB : ℕ) (i : Instruction) (config : List ℕ) (m : List Bool) (a b : List ℕ) where
-  pub matrix-stopped : (o : Outcome) → (p || (q || s)) ≡ true → ((j : Instruction) → o ≡ waitOutcome s (decodesUnless p q j)) →
+  pub matrix-stopped : (o : Told Progress) → (p || (q || s)) ≡ true → ((j : Instruction) → o ≡ waitOutcome s (decodesUnless p q j)) →
       MatrixOffered s owned bank bankA bankB (decodesUnless p q i) config m a b o m a b
   matrix-stopped o h e =
       record {

@@ -4,8 +4,9 @@ use mathlib.Core.Path.{_≡_, sym, ap, _∙_}
 use mathlib.Core.List.{List}
 use Rattle.machine.specs.Machine.{Machine}
 use Rattle.machine.specs.Fresh.{freshMachine}
+use Rattle.answers.specs.Answers.{Told}
 use Rattle.turns.specs.declared.cursor.Cursor.{Cursor}
-use Rattle.turns.specs.declared.ending.Ending.{Ending}
+use Rattle.turns.specs.Ending.{RunEnd}
 use Rattle.turns.specs.Streams.{Streams}
 use Rattle.run_rules.specs.Run.{Summary, summary, runOf, summaryOf}
 use Rattle.records.specs.declared.script.Script.{Script}
@@ -18,12 +19,12 @@ use Rattle.report.specs.Lines.{numberLine, runLines}
 use Rattle.emulation.specs.Emulation.{startCursor, freshRun, linesOf, byScript, emulationOf}
 
 -- the parts of a fresh run's summary
-pub record Parts (s : Streams) (budget : ℕ) (a : Ending) (t : ℕ) (c : Cursor) : Type 0 where
+pub record Parts (s : Streams) (budget : ℕ) (a : Told RunEnd) (t : ℕ) (c : Cursor) : Type 0 where
   pub answer : a ≡ freshRun s budget .answer
   pub turns : t ≡ freshRun s budget .turns
   pub cursor : c ≡ freshRun s budget .cursor
 
-pub parts : (s : Streams) (budget : ℕ) (a : Ending) (t : ℕ) (m n : Machine) (c : Cursor) → m ≡ freshMachine →
+pub parts : (s : Streams) (budget : ℕ) (a : Told RunEnd) (t : ℕ) (m n : Machine) (c : Cursor) → m ≡ freshMachine →
     summary a t n c ≡ summaryOf (runOf s m startCursor budget) → Parts s budget a t c
 unfolding freshRun
 parts s budget a t m n c e h =
@@ -34,7 +35,7 @@ parts s budget a t m n c e h =
       cursor = ap (λ (x : Summary). x .cursor) g;
     }
 
-pub printed : (bs : List ℕ) (s : Script) (w : Streams) (a : Ending) (t : ℕ) (c : Cursor) → w ≡ streamsOf bs (s .counts) → Parts w (s .budget) a t c →
+pub printed : (bs : List ℕ) (s : Script) (w : Streams) (a : Told RunEnd) (t : ℕ) (c : Cursor) → w ≡ streamsOf bs (s .counts) → Parts w (s .budget) a t c →
     runLines a t c (s .counts .n0) (s .counts .n1) (s .counts .n2) ≡ linesOf (freshRun (streamsOf bs (s .counts)) (s .budget)) (s .counts)
 printed bs s w a t c e p = rw (p .answer, p .turns, p .cursor, e)
 

@@ -4,6 +4,7 @@ ghost use Prim.Native.Nat.{_≤_};
 ghost use lib.ListN.{length};
 ghost use Rattle.bits.specs.Overwrite.{Wrote};
 ghost use Rattle.turns.specs.Streams.{streams};
+ghost use Rattle.turns.specs.Ending.{toldEnding};
 ghost use Rattle.records.specs.declared.script.ScriptRead.the-variants.{Sound};
 ghost use Rattle.records.specs.Counts.{streamsOf};
 ghost use Rattle.records.specs.Script.{scriptOf};
@@ -32,7 +33,7 @@ struct Outline {
 
 // Runs a fresh machine.
 fn run_fresh(s0: &[u32], s1: &[u32], s2: &[u32], budget: u32) -> Outline
-    ensures answer { λ r. ⌜ r .answer ≡ freshRun (streams (now (s0 .entry)) (now (s1 .entry)) (now (s2 .entry))) budget .answer ⌝ }
+    ensures answer { λ r. ⌜ toldEnding (r .answer) ≡ freshRun (streams (now (s0 .entry)) (now (s1 .entry)) (now (s2 .entry))) budget .answer ⌝ }
     ensures turns { λ r. ⌜ r .turns ≡ freshRun (streams (now (s0 .entry)) (now (s1 .entry)) (now (s2 .entry))) budget .turns ⌝ }
     ensures cursor { λ r. ⌜ r .cursor ≡ freshRun (streams (now (s0 .entry)) (now (s1 .entry)) (now (s2 .entry))) budget .cursor ⌝ }
 {

@@ -6,19 +6,18 @@ use lib.Dec.{eqb, ltb}
 use lib.ListN.{length}
 use Rattle.bits.specs.Field.{flag}
 use Rattle.bits.specs.Overwrite.{over}
-use Rattle.answers.specs.Answers.{Told, accepted, refused}
+use Rattle.answers.specs.Answers.{Told, accepted, refused, refusal}
 use Rattle.expander.specs.Stream.{Emission, opcode, streamOf}
 use Rattle.templates.specs.Templates.{nth}
 use Rattle.expander.specs.declared.Answer.{Answer}
 use Rattle.expander.specs.declared.Answer.the-variants.{Done, Refused}
 use Rattle.expander.specs.declared.Carried.{Carried}
-use Rattle.machine.specs.Numbers.{numberOf, valuesOf}
 use Rattle.machine.specs.Sizes.{streamMost}
 
 -- the count of words written, or the number that comes back with its values
 abbrev pub told : Answer → Told ℕ
 told (Done n) = accepted n
-told (Refused r) = refused (numberOf r) (valuesOf r)
+told (Refused r) = refusal r
 
 pub record Call : Type 0 where
   pub answer : Told ℕ

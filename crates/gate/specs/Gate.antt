@@ -5,7 +5,6 @@ use lib.Dec.{eqb}
 use lib.ListN.{getD}
 use Rattle.machine.specs.declared.control.Wait.{Wait}
 use Rattle.machine.specs.declared.control.Control.{Control}
-use Rattle.machine.specs.declared.refusal.StallCause.the-variants.{MutexHeld}
 use Rattle.machine.specs.Control.{waitOf}
 use Rattle.word_rules.specs.declared.instruction.Instruction.{Instruction}
 use Rattle.word_rules.specs.declared.instruction.Instruction.the-variants.{Nop, Scalar, Sync, Config, Matrix}
@@ -24,7 +23,7 @@ abbrev pub mutexOpen : ℕ → ℕ → Bool
 mutexOpen holder t = eqb holder 0 || eqb holder (t + 1)
 
 abbrev pub syncGate : Control → ℕ → SyncWord → Gate
-syncGate c t (AtGetM m) = cond (mutexOpen (getD (c .mutexes) m 0) t) Open (Closed MutexHeld)
+syncGate c t (AtGetM m) = cond (mutexOpen (getD (c .mutexes) m 0) t) Open (Closed 102)
 syncGate c t (AtRelM m) = Open
 syncGate c t (StallWait block conditions) = Open
 syncGate c t (SemInit maximum value mask) = Open

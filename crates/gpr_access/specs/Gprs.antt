@@ -3,10 +3,9 @@ use Prim.Native.Nat.{ℕ}
 use mathlib.Core.List.{List}
 use lib.Dec.{eqb, leb}
 use lib.ListN.{length, getD, set}
-use Rattle.machine.specs.Numbers.{numberOf, valuesOf}
 use Rattle.machine.specs.Sizes.{gprCount}
 use Rattle.machine.specs.Units.{gpr, gprPlace}
-use Rattle.answers.specs.Answers.{Told, accepted, refused, provided, Call, checked}
+use Rattle.answers.specs.Answers.{Told, accepted, refusal, provided, Call, checked}
 use Rattle.gpr_access.specs.declared.GprFound.{GprFound}
 use Rattle.gpr_access.specs.declared.GprFound.the-variants.{GprAt, NoGpr}
 use Rattle.gpr_access.specs.declared.GprRead.{GprRead}
@@ -15,11 +14,11 @@ use Rattle.gpr_access.specs.declared.GprRead.the-variants.{Value, NotRea
 -- where a GPR was looked for
 abbrev pub toldPlace : GprFound → Told ℕ
 toldPlace (GprAt at) = accepted at
-toldPlace (NoGpr r) = refused (numberOf r) (valuesOf r)
+toldPlace (NoGpr r) = refusal r
 
 abbrev pub toldValue : GprRead → Told ℕ
 toldValue (Value v) = accepted v
-toldValue (NotRead r) = refused (numberOf r) (valuesOf r)
+toldValue (NotRead r) = refusal r
 
 -- 4: not 192 GPRs lent; 1: thread not 0–2; 11: register over 63. By their type all GPRs are in range, so 10 is never given
 unfoldable pub gprCheck : {A : Type 0} → ℕ → ℕ → ℕ → Told A → Told A

@@ -2,7 +2,7 @@
 use Prim.Native.Nat.{ℕ, _≤_, _<_}
 use mathlib.Core.Path.{_≡_, refl, sym, ap, ap₂, _∙_}
 use mathlib.Core.Bool.{Bool, true, false, cond, not, _&&_}
-use mathlib.Core.List.{List}
+use mathlib.Core.List.{List, [], _∷_}
 use native.Mathlib.Omega.{arith}
 use lib.Dec.{leb}
 use lib.ListN.{length}
@@ -12,13 +12,14 @@ use Rattle.machine.specs.declared.refusal.Refusal.{Refusal}
 use Rattle.machine.specs.declared.refusal.Refusal.the-variants.{BadLength, ShortOutput, BadImage, Malformed}
 use Rattle.machine.specs.Machine.{Machine}
 use Rattle.machine.specs.Formed.{sized, formed, wellFormed}
+use Rattle.answers.specs.Answers.{Told, accepted, refused, refusal, provided, call, checked}
 use Rattle.format.specs.Format.{accepts}
 use Rattle.format.proofs.Lawful.{accepts-not-long, accepts-not-good}
+use Rattle.layout.specs.Image.{image, imageSize}
 use Rattle.image.specs.declared.Saved.the-variants.{Written, NotSaved}
 use Rattle.image.specs.declared.LoadAnswer.{LoadAnswer}
 use Rattle.image.specs.declared.LoadAnswer.the-variants.{Taken, NotLoaded}
-use Rattle.layout.specs.Image.{image, imageSize}
-use Rattle.image.specs.Calls.{Saving, savedNumbers, saving, saveOf, Loading, loadNumbers, loading, loadAnswer, machineLoaded, loadOf}
+use Rattle.image.specs.Calls.{toldLoad, saving, saveOf, loading, loadCheck, loadOf}
 
 -- what a test by a call's result says of the test that the result is
 pub says-no : (r : Bool) {b : Bool} → r ≡ b → not r ≡ true → b ≡ false
@@ -47,58 +48,63 @@ module _ (m : Machine) (out : List ℕ) where
 
 -- what is known where an image was written
 written-held : (s f r : Bool) (o p : List ℕ) →
-    cond s (cond f (cond r (saving Written o) (saving (NotSaved ShortOutput) p)) (saving (NotSaved Malformed) p)) (saving (NotSaved BadLength) p) .answer ≡ Written →
-    s && f ≡ true
+    checked (provided s 4 (provided f 10 (provided r 8 (accepted tt)))) p o .answer ≡ accepted tt → s && f ≡ true
 written-held true true r o p e = refl
 written-held true false r o p e = let z : _≡_ {A = ℕ} 0 1 = cc in absurd (omega arith)
 written-held false f r o p e = let z : _≡_ {A = ℕ} 0 1 = cc in absurd (omega arith)
 
-pub written-means : (m : Machine) (out : List ℕ) → saveOf m out .answer ≡ Written → wellFormed m ≡ true
+pub written-means : (m : Machine) (out : List ℕ) → saveOf m out .answer ≡ accepted tt → wellFormed m ≡ true
 unfolding saveOf
 written-means m out e = written-held (sized m) (formed m) (leb imageSize (length out)) (over out 0 (image .put m)) out e
 
 -- ---- load
-both-held : (s a : Bool) (g : ℕ) → cond s (cond a Taken (NotLoaded (BadImage g))) (NotLoaded BadLength) ≡ Taken → (s ≡ true) × (a ≡ true)
+both-held : (s a : Bool) (g : List ℕ) → _≡_ {A = Told (Unit {0})} (provided s 4 (cond a (accepted tt) (refused 9 g))) (accepted tt) → (s ≡ true) × (a ≡ true)
 both-held true true g e = (refl, refl)
 both-held true false g e = let z : _≡_ {A = ℕ} 0 1 = cc in absurd (omega arith)
 both-held false a g e = let z : _≡_ {A = ℕ} 0 1 = cc in absurd (omega arith)
 
 module _ (fits : Bool) (bs : List ℕ) where
-  pub judged-unsized : fits ≡ false → NotLoaded BadLength ≡ loadAnswer fits bs
-  unfolding loadAnswer
+  pub judged-unsized : fits ≡ false → toldLoad (NotLoaded BadLength) ≡ loadCheck fits bs
+  unfolding loadCheck
   judged-unsized s = rw s
 
-  refused : fits ≡ true → accepts image bs ≡ false → NotLoaded (BadImage (image .good bs)) ≡ loadAnswer fits bs
-  unfolding loadAnswer
-  refused s a = rw (s, a)
+  bad : fits ≡ true → accepts image bs ≡ false → toldLoad (NotLoaded (BadImage (image .good bs))) ≡ loadCheck fits bs
+  unfolding loadCheck
+  bad s a = rw (s, a)
 
-  pub judged-not-long : fits ≡ true → (length bs ≡ imageSize → ⊥) → NotLoaded (BadImage (image .good bs)) ≡ loadAnswer fits bs
-  judged-not-long s h = refused s (accepts-not-long image bs h)
+  pub judged-not-long : fits ≡ true → (length bs ≡ imageSize → ⊥) → toldLoad (NotLoaded (BadImage (image .good bs))) ≡ loadCheck fits bs
+  judged-not-long s h = bad s (accepts-not-long image bs h)
 
-  pub judged-not-good : fits ≡ true → length bs ≡ imageSize → (image .good bs ≡ imageSize → ⊥) → NotLoaded (BadImage (image .good bs)) ≡ loadAnswer fits bs
-  judged-not-good s h g = refused s (accepts-not-good image bs h g)
+  pub judged-not-good : fits ≡ true → length bs ≡ imageSize → (image .good bs ≡ imageSize → ⊥) → toldLoad (NotLoaded (BadImage (image .good bs))) ≡ loadCheck fits bs
+  judged-not-good s h g = bad s (accepts-not-good image bs h g)
 
-  pub judged-taken : fits ≡ true → accepts image bs ≡ true → Taken ≡ loadAnswer fits bs
-  unfolding loadAnswer
+  pub judged-taken : fits ≡ true → accepts image bs ≡ true → toldLoad Taken ≡ loadCheck fits bs
+  unfolding loadCheck
   judged-taken s a = rw (s, a)
 
   -- what is known where an image is taken
-  pub taken-means : loadAnswer fits bs ≡ Taken → (fits ≡ true) × (accepts image bs ≡ true)
-  unfolding loadAnswer
-  taken-means e = both-held fits (accepts image bs) (image .good bs) e
+  pub taken-means : loadCheck fits bs ≡ accepted tt → (fits ≡ true) × (accepts image bs ≡ true)
+  unfolding loadCheck
+  taken-means e = both-held fits (accepts image bs) (image .good bs ∷ []) e
 
-module _ (bs : List ℕ) (m : Machine) where
-  pub load-refused : {a : LoadAnswer} {r : Refusal} → a ≡ loadAnswer (sized m) bs → a ≡ NotLoaded r → loading a m ≡ loadOf bs m
+module _ (bs : List ℕ) (m : Machine) (a : LoadAnswer) (e : toldLoad a ≡ loadCheck (sized m) bs) where
+  pub load-refused : (r : Refusal) → a ≡ NotLoaded r → loading a m ≡ loadOf bs m
   unfolding loadOf
-  load-refused {a} {r} e n = ap₂ loading e (sym (ap (λ (x : LoadAnswer). machineLoaded x bs m) (sym e ∙ n)))
+  load-refused r n = rw (← e, n)
 
-  pub load-taken : {a : LoadAnswer} {k : Machine} → a ≡ loadAnswer (sized m) bs → a ≡ Taken → k ≡ image .get bs → loading a k ≡ loadOf bs m
+  pub load-taken : (k : Machine) → a ≡ Taken → k ≡ image .get bs → loading a k ≡ loadOf bs m
   unfolding loadOf
-  load-taken {a} {k} e n g = ap₂ loading e (g ∙ sym (ap (λ (x : LoadAnswer). machineLoaded x bs m) (sym e ∙ n)))
+  load-taken k n g = rw (← e, n, g)
 
--- ---- equal calls have equal numbers
-pub save-numbered : (x y : Saving) → x ≡ y → (x ≡ y) × (savedNumbers (x .answer) ≡ savedNumbers (y .answer))
-save-numbered x y e = (e, ap (λ (z : Saving). savedNumbers (z .answer)) e)
+-- the answer of a load, and its machine where the image is taken
+pub load-answer : (bs : List ℕ) (m : Machine) → loadOf bs m .answer ≡ loadCheck (sized m) bs
+unfolding loadOf
+load-answer bs m = go (loadCheck (sized m) bs)
+  where
+    go : (x : Told (Unit {0})) → checked x m (image .get bs) .answer ≡ x
+    go (accepted u) = refl
+    go (refused n vs) = refl
 
-pub load-numbered : (x y : Loading) → x ≡ y → (x ≡ y) × (loadNumbers (x .answer) ≡ loadNumbers (y .answer))
-load-numbered x y e = (e, ap (λ (z : Loading). loadNumbers (z .answer)) e)
+pub load-machine : (bs : List ℕ) (m : Machine) → loadCheck (sized m) bs ≡ accepted tt → loadOf bs m .after ≡ image .get bs
+unfolding loadOf
+load-machine bs m e = rw e

@@ -11,16 +11,16 @@ use Rattle.bits.specs.Overwrite.{over}
 use Rattle.bits.proofs.Choices.{and-left, and-right}
 use Rattle.machine.specs.Machine.{Machine}
 use Rattle.machine.specs.Formed.{sized, formed, wellFormed}
+use Rattle.answers.specs.Answers.{accepted, Call, call}
 use Rattle.format.specs.Format.{accepts}
 use Rattle.format.proofs.Lawful.{whole-accepts, whole-get, whole-put, whole-ok}
-use Rattle.image.specs.declared.Saved.the-variants.{Written}
-use Rattle.image.specs.declared.LoadAnswer.the-variants.{Taken}
 use Rattle.layout.specs.Image.{image, imageSize}
-use Rattle.image.specs.Calls.{saving, saveOf, loading, machineLoaded, loadOf}
-use Rattle.image.specs.Promises.{RoundTrips, ImageFacts}
 use Rattle.layout.proofs.MarkLaws.{mark-at}
 use Rattle.layout.proofs.ImageLaws.{image-lawful, formed-ok, ok-formed}
-use Rattle.image.proofs.Answers.{save-written, written-means, judged-taken, taken-means, load-taken}
+use Rattle.image.specs.declared.LoadAnswer.the-variants.{Taken}
+use Rattle.image.specs.Calls.{saveOf, loadOf}
+use Rattle.image.specs.Promises.{RoundTrips, ImageFacts}
+use Rattle.image.proofs.Answers.{save-written, written-means, judged-taken, taken-means, load-taken, load-answer, load-machine}
 
 -- from the start of a list
 over-start : (out bs : List ℕ) → over out 0 bs ≡ bs ++ drop (length bs) out
@@ -28,38 +28,39 @@ unfolding over
 over-start out bs = rw zero-add
 
 -- what is saved of a well-formed machine
-saved : (m : Machine) (out : List ℕ) → wellFormed m ≡ true → imageSize ≤ length out → saveOf m out ≡ saving Written (image .put m ++ drop imageSize out)
+saved : (m : Machine) (out : List ℕ) → wellFormed m ≡ true → imageSize ≤ length out → saveOf m out ≡ call (accepted tt) (image .put m ++ drop imageSize out)
 saved m out h room =
     let long : length (image .put m) ≡ imageSize = image-lawful .long m (formed-ok m h) in
     sym (save-written m out (and-left (sized m) (formed m) h) (and-right (sized m) (formed m) h) room)
-    ∙ ap (saving Written) (over-start out (image .put m) ∙ ap (λ (n : ℕ). image .put m ++ drop n out) long)
+    ∙ ap (call (accepted tt)) (over-start out (image .put m) ∙ ap (λ (n : ℕ). image .put m ++ drop n out) long)
 
 loads-back : (m old : Machine) (out : List ℕ) → wellFormed m ≡ true → sized old ≡ true → imageSize ≤ length out →
-    loadOf (take imageSize (saveOf m out .out)) old ≡ loading Taken m
+    loadOf (take imageSize (saveOf m out .after)) old ≡ call (accepted tt) m
 loads-back m old out h s room =
     let ok = formed-ok m h in
     let bs = image .put m in
-    let there : take imageSize (saveOf m out .out) ≡ bs =
-    ap (λ r. take imageSize (r .out)) (saved m out h room) ∙ take-at bs (drop imageSize out) imageSize (image-lawful .long m ok) in
+    let there : take imageSize (saveOf m out .after) ≡ bs =
+    ap (λ (r : Call (List ℕ)). take imageSize (r .after)) (saved m out h room) ∙ take-at bs (drop imageSize out) imageSize (image-lawful .long m ok) in
     ap (λ (b : List ℕ). loadOf b old) there
-    ∙ sym (load-taken bs old (judged-taken (sized old) bs s (whole-accepts image image-lawful m ok)) refl (sym (whole-get image image-lawful m ok)))
+    ∙ sym (load-taken bs old Taken (judged-taken (sized old) bs s (whole-accepts image image-lawful m ok)) m refl (sym (whole-get image image-lawful m ok)))
 
 -- what is known where an image is taken: the bytes are accepted, and their machine comes back
-taken : (bs : List ℕ) (old : Machine) → loadOf bs old .answer ≡ Taken → (accepts image bs ≡ true) × (loadOf bs old .machine ≡ image .get bs)
-unfolding loadOf
-taken bs old e = (taken-means (sized old) bs e .1, ap (λ a. machineLoaded a bs old) e)
+taken : (bs : List ℕ) (old : Machine) → loadOf bs old .answer ≡ accepted tt → (accepts image bs ≡ true) × (loadOf bs old .after ≡ image .get bs)
+taken bs old e =
+    let fine = sym (load-answer bs old) ∙ e in
+    (taken-means (sized old) bs fine .1, load-machine bs old fine)
 
-formed-after : (bs : List ℕ) (old : Machine) → Bytes bs → loadOf bs old .answer ≡ Taken → wellFormed (loadOf bs old .machine) ≡ true
+formed-after : (bs : List ℕ) (old : Machine) → Bytes bs → loadOf bs old .answer ≡ accepted tt → wellFormed (loadOf bs old .after) ≡ true
 formed-after bs old b e =
     let t = taken bs old e in
     ap wellFormed (t .1) ∙ ok-formed (image .get bs) (whole-ok image image-lawful bs b (t .0))
 
-saves-back : (bs : List ℕ) (old : Machine) (out : List ℕ) → Bytes bs → loadOf bs old .answer ≡ Taken → imageSize ≤ length out →
-    saveOf (loadOf bs old .machine) out ≡ saving Written (bs ++ drop imageSize out)
+saves-back : (bs : List ℕ) (old : Machine) (out : List ℕ) → Bytes bs → loadOf bs old .answer ≡ accepted tt → imageSize ≤ length out →
+    saveOf (loadOf bs old .after) out ≡ call (accepted tt) (bs ++ drop imageSize out)
 saves-back bs old out b e room =
     let t = taken bs old e in
-    saved (loadOf bs old .machine) out (formed-after bs old b e) room
-    ∙ ap (λ (l : List ℕ). saving Written (l ++ drop imageSize out)) (ap (image .put) (t .1) ∙ whole-put image image-lawful bs b (t .0))
+    saved (loadOf bs old .after) out (formed-after bs old b e) room
+    ∙ ap (λ (l : List ℕ). call (accepted tt) (l ++ drop imageSize out)) (ap (image .put) (t .1) ∙ whole-put image image-lawful bs b (t .0))
 
 pub round-trips : RoundTrips
 round-trips = record { loads-back = loads-back; saves-back = saves-back; saves = λ m out room. (λ h. saved m out h room, written-means m out); formed = formed-after }

@@ -9,25 +9,24 @@ use Rattle.bits.specs.Field.{flag}
 use Rattle.bits.specs.Bytes.{Bytes}
 use Rattle.machine.specs.Machine.{Machine}
 use Rattle.machine.specs.Formed.{sized, wellFormed}
-use Rattle.image.specs.declared.Saved.the-variants.{Written}
-use Rattle.image.specs.declared.LoadAnswer.the-variants.{Taken}
+use Rattle.answers.specs.Answers.{accepted, call}
 use Rattle.layout.specs.Marks.{marksFormat}
 use Rattle.layout.specs.Image.{image, imageSize}
-use Rattle.image.specs.Calls.{saving, saveOf, loading, loadOf}
+use Rattle.image.specs.Calls.{saveOf, loadOf}
 
 pub record RoundTrips : Type 0 where
   -- what is saved of a well-formed machine loads to that machine, whatever was in the parts before
   pub loads-back : (m old : Machine) (out : List ℕ) → wellFormed m ≡ true → sized old ≡ true → imageSize ≤ length out →
-      loadOf (take imageSize (saveOf m out .out)) old ≡ loading Taken m
+      loadOf (take imageSize (saveOf m out .after)) old ≡ call (accepted tt) m
   -- an accepted image saves to its own bytes
-  pub saves-back : (bs : List ℕ) (old : Machine) (out : List ℕ) → Bytes bs → loadOf bs old .answer ≡ Taken → imageSize ≤ length out →
-      saveOf (loadOf bs old .machine) out ≡ saving Written (bs ++ drop imageSize out)
+  pub saves-back : (bs : List ℕ) (old : Machine) (out : List ℕ) → Bytes bs → loadOf bs old .answer ≡ accepted tt → imageSize ≤ length out →
+      saveOf (loadOf bs old .after) out ≡ call (accepted tt) (bs ++ drop imageSize out)
   -- given room, a machine is written exactly when it is well formed
   pub saves : (m : Machine) (out : List ℕ) → imageSize ≤ length out →
-      (wellFormed m ≡ true → saveOf m out ≡ saving Written (image .put m ++ drop imageSize out)) ×
-      (saveOf m out .answer ≡ Written → wellFormed m ≡ true)
+      (wellFormed m ≡ true → saveOf m out ≡ call (accepted tt) (image .put m ++ drop imageSize out)) ×
+      (saveOf m out .answer ≡ accepted tt → wellFormed m ≡ true)
   -- what an accepted image gives is well formed
-  pub formed : (bs : List ℕ) (old : Machine) → Bytes bs → loadOf bs old .answer ≡ Taken → wellFormed (loadOf bs old .machine) ≡ true
+  pub formed : (bs : List ℕ) (old : Machine) → Bytes bs → loadOf bs old .answer ≡ accepted tt → wellFormed (loadOf bs old .after) ≡ true
 
 pub record ImageFacts : Type 0 where
   pub size : image .size ≡ 48473

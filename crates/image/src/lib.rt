@@ -1,7 +1,7 @@
 // Saved images (document 01, "Saved image"): save, load, and what the two promise together.
 ghost use mathlib.Core.Path.{_≡_};
 ghost use Rattle.machine.specs.Machine.{machine, stores};
-ghost use Rattle.image.specs.Calls.{savedNumbers, saving, saveOf, loadNumbers, loading, loadAnswer, loadOf};
+ghost use Rattle.image.specs.Calls.{toldLoad, saving, saveOf, loading, loadCheck, loadOf};
 ghost use Rattle.image.specs.Promises.{ImageFacts, RoundTrips};
 
 mod whole;
@@ -41,7 +41,6 @@ pub fn save(
     out: &mut [u8],
 ) -> Saved
     ensures { λ r. ⌜ saving r (now (out .exit)) ≡ saveOf (machine control (now (settings .entry)) (stores (now (gprs .entry)) (now (config .entry)) (now (dest .entry)) (now (marks .entry)) (now («src_a» .entry)) (now («src_b» .entry)))) (now (out .entry)) ⌝ }
-    ensures numbers { λ r. ⌜ savedNumbers r ≡ savedNumbers (saveOf (machine control (now (settings .entry)) (stores (now (gprs .entry)) (now (config .entry)) (now (dest .entry)) (now (marks .entry)) (now («src_a» .entry)) (now («src_b» .entry)))) (now (out .entry)) .answer) ⌝ }
 {
     if !formed::machine_sized(control, settings, gprs, config, dest, marks, src_a, src_b) {
         return Saved::NotSaved(Refusal::BadLength);
@@ -68,7 +67,7 @@ pub fn save(
 
 // Whether an image is taken, for parts that have their sizes or not.
 fn judge(fits: bool, bytes: &[u8]) -> LoadAnswer
-    ensures { λ r. ⌜ r ≡ loadAnswer fits (now (bytes .entry)) ⌝ }
+    ensures { λ r. ⌜ toldLoad r ≡ loadCheck fits (now (bytes .entry)) ⌝ }
 {
     if !fits {
         return LoadAnswer::NotLoaded(Refusal::BadLength);
@@ -96,7 +95,6 @@ pub fn load(
     src_b: &mut [u32],
 ) -> Loaded
     ensures { λ r. ⌜ loading (r .answer) (machine (r .control) (now (settings .exit)) (stores (now (gprs .exit)) (now (config .exit)) (now (dest .exit)) (now (marks .exit)) (now («src_a» .exit)) (now («src_b» .exit)))) ≡ loadOf (now (bytes .entry)) (machine control (now (settings .entry)) (stores (now (gprs .entry)) (now (config .entry)) (now (dest .entry)) (now (marks .entry)) (now («src_a» .entry)) (now («src_b» .entry)))) ⌝ }
-    ensures numbers { λ r. ⌜ loadNumbers (r .answer) ≡ loadNumbers (loadOf (now (bytes .entry)) (machine control (now (settings .entry)) (stores (now (gprs .entry)) (now (config .entry)) (now (dest .entry)) (now (marks .entry)) (now («src_a» .entry)) (now («src_b» .entry)))) .answer) ⌝ }
 {
     let fits = formed::machine_sized(control, settings, gprs, config, dest, marks, src_a, src_b);
     let answer = judge(fits, bytes);

@@ -2,7 +2,7 @@
 ghost use mathlib.Core.Path.{_≡_};
 ghost use Rattle.image.specs.Calls.{saving, saveOf, loadOf};
 ghost use Rattle.lent_machines.specs.Lent.{lentOf};
-ghost use Rattle.image_vectors.specs.Loaded.{loadedIn};
+ghost use Rattle.image_vectors.specs.Loaded.{toldParts, loadedIn};
 use image::LoadAnswer;
 use image::Saved;
 use lent_machines::lengths::Lengths;
@@ -46,7 +46,7 @@ pub(crate) fn save(p: Parts, n: Lengths, out: &mut [u8]) -> Saved
 }
 
 pub(crate) fn load(p: Parts, n: Lengths, bytes: &[u8]) -> PartsLoaded
-    ensures { λ r. ⌜ r ≡ loadedIn p n (loadOf (now (bytes .entry)) (lentOf p n)) ⌝ }
+    ensures { λ r. ⌜ toldParts r ≡ loadedIn p n (loadOf (now (bytes .entry)) (lentOf p n)) ⌝ }
 {
     let mut settings = p.settings;
     let mut gprs = p.gprs;

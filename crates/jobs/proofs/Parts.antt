@@ -31,7 +31,7 @@ word-part n r e h =
 
 -- what loads of an image in the room tell
 pub loads-line : (j : Job) (r : List ℕ) → r ≡ imageRoom →
-    toldLine (loadsTold (loadsOf (saveOf (seedMachine (j .seed)) (take 48473 r) .out) (j .times) freshMachine)) ≡ loadsLine j
+    toldLine (loadsTold (loadsOf (saveOf (seedMachine (j .seed)) (take 48473 r) .after) (j .times) freshMachine)) ≡ loadsLine j
 unfolding loadsLine
 loads-line j r e =
-    ap (λ (o : List ℕ). toldLine (loadsTold (loadsOf (saveOf (seedMachine (j .seed)) (take 48473 o) .out) (j .times) freshMachine))) e
+    ap (λ (o : List ℕ). toldLine (loadsTold (loadsOf (saveOf (seedMachine (j .seed)) (take 48473 o) .after) (j .times) freshMachine))) e

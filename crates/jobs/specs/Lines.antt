@@ -6,12 +6,12 @@ use lib.Dec.{eqb, ltb}
 use lib.ListN.{length, take, drop, replicate}
 use Rattle.bits.specs.Bytes.{enc}
 use Rattle.machine.specs.Fresh.{freshMachine}
-use Rattle.turns.specs.Streams.{Streams, streams}
-use Rattle.image.specs.Calls.{saveOf}
 use Rattle.answers.specs.Answers.{Told, accepted, refused}
+use Rattle.turns.specs.Streams.{Streams, streams}
 use Rattle.expander.specs.declared.Carried.{Carried}
 use Rattle.expander.specs.Stream.{carry}
 use Rattle.expander.specs.Call.{Call}
+use Rattle.image.specs.Calls.{saveOf}
 use Rattle.seeded.specs.Adler.{startSums, addBytes, bytesOf, checksumOf}
 use Rattle.whole_seeded.specs.Seeded.{seedMachine, withFreshControl}
 use Rattle.repeated.specs.Repeats.{savesOf, loadsOf, expansionsOf}
@@ -59,7 +59,7 @@ savesLine j =
 -- 3: loads of the seed's machine over a fresh one
 unfoldable pub loadsLine : Job → Line
 loadsLine j =
-    toldLine (loadsTold (loadsOf (saveOf (seedMachine (j .seed)) (take 48473 imageRoom) .out) (j .times) freshMachine))
+    toldLine (loadsTold (loadsOf (saveOf (seedMachine (j .seed)) (take 48473 imageRoom) .after) (j .times) freshMachine))
 
 -- 4: the last call's refusal, its words, the high mask after it, the output's checksum
 abbrev pub callLine : Told ℕ → Carried → ℕ → Line

@@ -3,8 +3,6 @@ use Prim.Native.Nat.{ℕ}
 use mathlib.Core.List.{List, [], _∷_}
 use Rattle.machine.specs.declared.refusal.Refusal.{Refusal}
 use Rattle.machine.specs.declared.refusal.Refusal.the-variants.{BadThread, BadWord, BadField, BadLength, BadCursor, BadBudget, BadRounds, ShortOutput, BadImage, Malformed, BadPlace, WrongOwner}
-use Rattle.machine.specs.declared.refusal.Outcome.{Outcome}
-use Rattle.machine.specs.declared.refusal.Outcome.the-variants.{Idle, Passed, Stalled, Refused}
 use Rattle.machine.specs.declared.refusal.StallCause.{StallCause}
 use Rattle.machine.specs.declared.refusal.StallCause.the-variants.{WaitHolds, MutexHeld, BankNotMatrix}
 
@@ -56,10 +54,3 @@ stallNumberOf WaitHolds = 101
 stallNumberOf MutexHeld = 102
 -- SrcB's owner
 stallNumberOf BankNotMatrix = 103
-
--- a turn's outcome: stalled and refused have a number
-abbrev pub outcomeNumbers : Outcome → List ℕ
-outcomeNumbers Idle = []
-outcomeNumbers Passed = []
-outcomeNumbers (Stalled cause) = stallNumberOf cause ∷ []
-outcomeNumbers (Refused r) = numberOf r ∷ valuesOf r

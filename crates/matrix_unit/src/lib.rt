@@ -8,9 +8,10 @@ ghost use mathlib.Core.Bool.{Bool};
 ghost use mathlib.Core.List.{List};
 ghost use Prim.Native.Nat.{ℕ, _<_};
 ghost use lib.ListN.{length};
+ghost use Rattle.answers.specs.Outcomes.{toldOutcome};
+ghost use Rattle.answers.specs.Answers.{accepted};
 ghost use Rattle.word_rules.specs.declared.instruction.MatrixWord.the-variants.{TrnspSrcB};
 ghost use Rattle.word_rules.specs.declared.instruction.Instruction.the-variants.{Matrix};
-ghost use Rattle.word_rules.specs.declared.instruction.Decoded.the-variants.{Decodes};
 ghost use Rattle.word_rules.specs.MatrixWords.{movB2AOf, zeroAccOf};
 ghost use Rattle.effects.specs.Offered.{MatrixOffered};
 use crate::marks::zero_marks;
@@ -34,7 +35,7 @@ use offers::verdict;
 // sizes, and the banks are in range.
 pub fn trnsp_src_b(src_b: &mut [u32], bank_b: usize, owned: bool, stalls: bool) -> Outcome
     requires { ⌜ (length (now «src_b») ≡ 2048) × («bank_b» < 2) ⌝ }
-    ensures { λ r. ⌜ ((bank bankA : ℕ) (config : List ℕ) (marks : List Bool) (srcA : List ℕ) → MatrixOffered stalls owned bank bankA «bank_b» (Decodes (Matrix TrnspSrcB)) config marks srcA (now («src_b» .entry)) r marks srcA (now («src_b» .exit))) ⌝ }
+    ensures { λ r. ⌜ ((bank bankA : ℕ) (config : List ℕ) (marks : List Bool) (srcA : List ℕ) → MatrixOffered stalls owned bank bankA «bank_b» (accepted (Matrix TrnspSrcB)) config marks srcA (now («src_b» .entry)) (toldOutcome r) marks srcA (now («src_b» .exit))) ⌝ }
 {
     if stalls {
         return verdict(false, false, stalls);
@@ -57,7 +58,7 @@ pub fn mov_b2a(
     stalls: bool,
 ) -> Outcome
     requires { ⌜ (length (now «src_a») ≡ 2048) × (length (now «src_b») ≡ 2048) × («bank_a» < 2) × («bank_b» < 2) ⌝ }
-    ensures { λ r. ⌜ ((bank : ℕ) (config : List ℕ) (marks : List Bool) → MatrixOffered stalls owned bank «bank_a» «bank_b» (movB2AOf word) config marks (now («src_a» .entry)) (now («src_b» .entry)) r marks (now («src_a» .exit)) (now («src_b» .entry))) ⌝ }
+    ensures { λ r. ⌜ ((bank : ℕ) (config : List ℕ) (marks : List Bool) → MatrixOffered stalls owned bank «bank_a» «bank_b» (movB2AOf word) config marks (now («src_a» .entry)) (now («src_b» .entry)) (toldOutcome r) marks (now («src_a» .exit)) (now («src_b» .entry))) ⌝ }
 {
     let bad = has_addr_mod(word);
     if stopped(bad, false, stalls) {
@@ -81,7 +82,7 @@ pub fn mov_b2a(
 // ZEROACC, with the thread's Config bank.
 pub fn zero_acc(config: &[u32], marks: &mut [bool], bank: usize, word: u32, stalls: bool) -> Outcome
     requires { ⌜ (length (now config) ≡ 512) × (length (now marks) ≡ 1024) × (bank < 2) ⌝ }
-    ensures { λ r. ⌜ ((owned : Bool) (bankA bankB : ℕ) (srcA srcB : List ℕ) → MatrixOffered stalls owned bank bankA bankB (zeroAccOf word) (now (config .entry)) (now (marks .entry)) srcA srcB r (now (marks .exit)) srcA srcB) ⌝ }
+    ensures { λ r. ⌜ ((owned : Bool) (bankA bankB : ℕ) (srcA srcB : List ℕ) → MatrixOffered stalls owned bank bankA bankB (zeroAccOf word) (now (config .entry)) (now (marks .entry)) srcA srcB (toldOutcome r) (now (marks .exit)) srcA srcB) ⌝ }
 {
     let bad = has_addr_mod(word);
     let past = place_past(word);

@@ -1,6 +1,7 @@
 // The words of the matrix unit: their fields, and what they say. Bits i to j of a word are `(word >> i) % 2^(j - i + 1)`.
 ghost use mathlib.Core.Path.{_≡_};
 ghost use Rattle.bits.specs.Field.{field, flag};
+ghost use Rattle.word_rules.specs.Refused.{toldDecoded};
 ghost use Rattle.word_rules.specs.MatrixWords.{hasAddrMod, viewRows, placePast, movB2AOf, zeroAccOf, clearDValidOf, setDValidOf};
 ghost use Rattle.word_rules.specs.Units.{badWord, cellRows, bankRows};
 use machine::refusal::Refusal;
@@ -122,7 +123,7 @@ pub fn sets_b(word: u32) -> bool
 
 // MOVB2A.
 fn mov_b2a(word: u32) -> Decoded
-    ensures { λ r. ⌜ r ≡ movB2AOf word ⌝ }
+    ensures { λ r. ⌜ toldDecoded r ≡ movB2AOf word ⌝ }
 {
     let says = Instruction::Matrix(MatrixWord::MovB2A {
         row_a: row_a(word),
@@ -134,7 +135,7 @@ fn mov_b2a(word: u32) -> Decoded
 
 // ZEROACC.
 fn zero_acc(word: u32) -> Decoded
-    ensures { λ r. ⌜ r ≡ zeroAccOf word ⌝ }
+    ensures { λ r. ⌜ toldDecoded r ≡ zeroAccOf word ⌝ }
 {
     let says = Instruction::Matrix(MatrixWord::ZeroAcc {
         mode: mode(word),
@@ -146,7 +147,7 @@ fn zero_acc(word: u32) -> Decoded
 
 // CLEARDVALID.
 fn clear_dvalid(word: u32) -> Decoded
-    ensures { λ r. ⌜ r ≡ clearDValidOf word ⌝ }
+    ensures { λ r. ⌜ toldDecoded r ≡ clearDValidOf word ⌝ }
 {
     Decoded::Decodes(Instruction::Matrix(MatrixWord::ClearDValid {
         a: clears_a(word),
@@ -158,7 +159,7 @@ fn clear_dvalid(word: u32) -> Decoded
 
 // SETDVALID.
 fn set_dvalid(word: u32) -> Decoded
-    ensures { λ r. ⌜ r ≡ setDValidOf word ⌝ }
+    ensures { λ r. ⌜ toldDecoded r ≡ setDValidOf word ⌝ }
 {
     Decoded::Decodes(Instruction::Matrix(MatrixWord::SetDValid {
         a: sets_a(word),
@@ -168,7 +169,7 @@ fn set_dvalid(word: u32) -> Decoded
 
 // What a word with an opcode of the matrix unit says; any other opcode is 2.
 pub fn decode_matrix(op: u32, word: u32) -> Decoded
-    ensures { λ r. ⌜ r ≡ cellRows op word (bankRows op word badWord) ⌝ }
+    ensures { λ r. ⌜ toldDecoded r ≡ cellRows op word (bankRows op word badWord) ⌝ }
 {
     match op {
         0x16 => Decoded::Decodes(Instruction::Matrix(MatrixWord::TrnspSrcB)),

@@ -1,6 +1,7 @@
 // What an offered word comes to: refused by itself, stalled by its thread's wait, or passed.
 ghost use mathlib.Core.Path.{_≡_};
 ghost use mathlib.Core.Bool.{_||_};
+ghost use Rattle.answers.specs.Outcomes.{toldOutcome};
 ghost use Rattle.word_rules.specs.declared.instruction.Instruction.{Instruction};
 ghost use Rattle.word_rules.specs.Refused.{decodesUnless};
 ghost use Rattle.offers.specs.Offer.{hasPassed, waitOutcome};
@@ -23,7 +24,7 @@ pub fn stopped(bad_word: bool, bad_field: bool, stalls: bool) -> bool
 
 // What comes of a word that nothing but its thread's wait can stall: 2, 3, then 101, else it passes.
 pub fn verdict(bad_word: bool, bad_field: bool, stalls: bool) -> Outcome
-    ensures { λ r. ⌜ ((i : Instruction) → r ≡ waitOutcome stalls (decodesUnless «bad_word» «bad_field» i)) ⌝ }
+    ensures { λ r. ⌜ ((i : Instruction) → toldOutcome r ≡ waitOutcome stalls (decodesUnless «bad_word» «bad_field» i)) ⌝ }
 {
     if bad_word {
         return Outcome::Refused(Refusal::BadWord);
@@ -39,7 +40,7 @@ pub fn verdict(bad_word: bool, bad_field: bool, stalls: bool) -> Outcome
 
 // Whether a word passed.
 pub fn has_passed(o: Outcome) -> bool
-    ensures { λ r. ⌜ r ≡ hasPassed o ⌝ }
+    ensures { λ r. ⌜ r ≡ hasPassed (toldOutcome o) ⌝ }
 {
     match o {
         Outcome::Idle => false,

@@ -2,29 +2,21 @@
 use Prim.Native.Nat.{ℕ}
 use mathlib.Core.List.{List}
 use Rattle.bits.specs.Bytes.{enc}
-use Rattle.machine.specs.Numbers.{numberOf}
-use Rattle.image.specs.declared.Saved.{Saved}
-use Rattle.image.specs.declared.Saved.the-variants.{Written, NotSaved}
-use Rattle.image.specs.declared.LoadAnswer.{LoadAnswer}
-use Rattle.image.specs.declared.LoadAnswer.the-variants.{Taken, NotLoaded}
-use Rattle.image.specs.Calls.{Saving, Loading}
+use Rattle.machine.specs.Machine.{Machine}
+use Rattle.answers.specs.Answers as answers
 use Rattle.seeded.specs.Adler.{startSums, addBytes, bytesOf, checksumOf}
 use Rattle.seeded.specs.Digest.{digestOf}
 use Rattle.repeated.specs.declared.told.Told.{Told}
 
 -- 0, or the refusal's number
-abbrev pub savedNumber : Saved → ℕ
-savedNumber Written = 0
-savedNumber (NotSaved r) = numberOf r
-
-abbrev pub loadedNumber : LoadAnswer → ℕ
-loadedNumber Taken = 0
-loadedNumber (NotLoaded r) = numberOf r
+abbrev pub lastNumber : answers.Told (Unit {0}) → ℕ
+lastNumber (answers.accepted x) = 0
+lastNumber (answers.refused n vs) = n
 
 -- with the checksum of the output
-abbrev pub savesTold : Saving → Told
-savesTold s = record { answer = savedNumber (s .answer); sum = checksumOf (addBytes startSums (bytesOf (enc 1) (s .out))) }
+abbrev pub savesTold : answers.Call (List ℕ) → Told
+savesTold s = record { answer = lastNumber (s .answer); sum = checksumOf (addBytes startSums (bytesOf (enc 1) (s .after))) }
 
 -- with the machine's digest
-abbrev pub loadsTold : Loading → Told
-loadsTold l = record { answer = loadedNumber (l .answer); sum = digestOf (l .machine) }
+abbrev pub loadsTold : answers.Call Machine → Told
+loadsTold l = record { answer = lastNumber (l .answer); sum = digestOf (l .after) }

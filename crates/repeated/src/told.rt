@@ -1,10 +1,10 @@
 // What is told of saves and loads of a seed's machine.
 ghost use mathlib.Core.Path.{_≡_};
 ghost use Rattle.machine.specs.Fresh.{freshMachine, machineOf};
-ghost use Rattle.image.specs.Calls.{saveOf, loading};
+ghost use Rattle.image.specs.Calls.{toldSaved, toldLoad, saveOf, loading};
 ghost use Rattle.whole_seeded.specs.Seeded.{seedMachine};
 ghost use Rattle.repeated.specs.Repeats.{savesOf, loadsOf};
-ghost use Rattle.repeated.specs.Told.{savedNumber, loadedNumber, savesTold, loadsTold};
+ghost use Rattle.repeated.specs.Told.{lastNumber, savesTold, loadsTold};
 use crate::images::repeat_loads;
 use crate::images::repeat_saves;
 use image::LoadAnswer;
@@ -24,7 +24,7 @@ pub struct Told {
 }
 
 fn save_number(s: Saved) -> u32
-    ensures { λ r. ⌜ r ≡ savedNumber s ⌝ }
+    ensures { λ r. ⌜ r ≡ lastNumber (toldSaved s) ⌝ }
 {
     match s {
         Saved::Written => 0,
@@ -33,7 +33,7 @@ fn save_number(s: Saved) -> u32
 }
 
 fn load_number(a: LoadAnswer) -> u32
-    ensures { λ r. ⌜ r ≡ loadedNumber a ⌝ }
+    ensures { λ r. ⌜ r ≡ lastNumber (toldLoad a) ⌝ }
 {
     match a {
         LoadAnswer::Taken => 0,
@@ -44,7 +44,7 @@ fn load_number(a: LoadAnswer) -> u32
 // Saves of the seed's machine in the room.
 pub fn tell_saves(seed: u32, room: &mut [u8], times: u32) -> Told
     ensures { λ r. ⌜ r ≡ savesTold (savesOf (seedMachine seed) times (now (room .entry))) ⌝ }
-    ensures left { λ _. ⌜ now (room .exit) ≡ savesOf (seedMachine seed) times (now (room .entry)) .out ⌝ }
+    ensures left { λ _. ⌜ now (room .exit) ≡ savesOf (seedMachine seed) times (now (room .entry)) .after ⌝ }
 {
     let saved = repeat_saves(machine_of(seed), room, times);
     let sum = sums::add_bytes(sums::start(), room);
@@ -67,8 +67,8 @@ fn told_of(l: WholeLoaded) -> Told
 
 // Loads of the image in the room, which holds the seed's machine, over a fresh machine.
 pub fn tell_loads(seed: u32, room: &mut [u8], times: u32) -> Told
-    ensures { λ r. ⌜ r ≡ loadsTold (loadsOf (saveOf (seedMachine seed) (now (room .entry)) .out) times freshMachine) ⌝ }
-    ensures left { λ _. ⌜ now (room .exit) ≡ saveOf (seedMachine seed) (now (room .entry)) .out ⌝ }
+    ensures { λ r. ⌜ r ≡ loadsTold (loadsOf (saveOf (seedMachine seed) (now (room .entry)) .after) times freshMachine) ⌝ }
+    ensures left { λ _. ⌜ now (room .exit) ≡ saveOf (seedMachine seed) (now (room .entry)) .after ⌝ }
 {
     save_whole(machine_of(seed), room);
     told_of(repeat_loads(room, fresh(), times))

@@ -1,12 +1,11 @@
 -- Runs of the same streams, one after the other.
 use Prim.Native.Nat.{ℕ, _+_, _%_, _^_}
 use Rattle.machine.specs.Machine.{Machine}
-use Rattle.machine.specs.Numbers.{numberOf}
+use Rattle.answers.specs.Answers as answers
 use Rattle.turns.specs.declared.cursor.Cursor.{Cursor}
-use Rattle.turns.specs.declared.ending.Ending.{Ending}
-use Rattle.turns.specs.declared.ending.Ending.the-variants.{Finished, Stuck, BudgetUsed, WordRefused, CallRefused}
 use Rattle.turns.specs.Streams.{Streams}
 use Rattle.turns.specs.Cursor.{cursor}
+use Rattle.turns.specs.Ending.{RunEnd, finished, stuck, budgetUsed, wordRefused}
 use Rattle.run_rules.specs.Run.{Summary, summary, runOf, summaryOf}
 use Rattle.run.specs.declared.Ran.{Ran}
 use Rattle.seeded.specs.Digest.{digestOf}
@@ -28,15 +27,15 @@ abbrev pub runAgain : Streams → ℕ → Summary → Summary
 runAgain s budget r = later (r .turns) (summaryOf (runOf s (r .after) startCursor budget))
 
 abbrev pub runsOf : Streams → ℕ → ℕ → Machine → Summary
-runsOf s budget times m = again (runAgain s budget) times (summary Finished 0 m startCursor)
+runsOf s budget times m = again (runAgain s budget) times (summary (answers.accepted finished) 0 m startCursor)
 
 -- 0 finished, 1 stuck, 2 budget; a refused word is 100 more than its number, a refused call 200 more
-abbrev pub endingNumber : Ending → ℕ
-endingNumber Finished = 0
-endingNumber Stuck = 1
-endingNumber BudgetUsed = 2
-endingNumber (WordRefused r) = (100 + numberOf r) % 2 ^ 32
-endingNumber (CallRefused r) = (200 + numberOf r) % 2 ^ 32
+abbrev pub endingNumber : answers.Told RunEnd → ℕ
+endingNumber (answers.accepted finished) = 0
+endingNumber (answers.accepted stuck) = 1
+endingNumber (answers.accepted budgetUsed) = 2
+endingNumber (answers.accepted (wordRefused n vs)) = (100 + n) % 2 ^ 32
+endingNumber (answers.refused n vs) = (200 + n) % 2 ^ 32
 
 -- with the machine's digest
 abbrev pub runTold : Summary → Told

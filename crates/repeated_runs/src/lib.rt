@@ -3,6 +3,7 @@ ghost use mathlib.Core.Path.{_≡_};
 ghost use Rattle.machine.specs.Machine.{machine, stores};
 ghost use Rattle.machine.specs.Fresh.{machineOf};
 ghost use Rattle.turns.specs.Streams.{streams};
+ghost use Rattle.turns.specs.Ending.{toldEnding};
 ghost use Rattle.run_rules.specs.Run.{summary};
 ghost use Rattle.whole_runs.specs.Ran.{ranSummary};
 ghost use Rattle.whole_seeded.specs.Seeded.{seedMachine, withFreshControl};
@@ -61,7 +62,7 @@ fn run_lent(
     budget: u32,
     times: u32,
 ) -> Ran
-    ensures { λ r. ⌜ summary (r .answer) (r .turns) (machine (r .control) (now (settings .exit)) (stores (now (gprs .exit)) (now (config .exit)) (now (dest .entry)) (now (marks .exit)) (now («src_a» .exit)) (now («src_b» .exit)))) (r .cursor) ≡ runsOf (streams (now (s0 .entry)) (now (s1 .entry)) (now (s2 .entry))) budget times (machine control (now (settings .entry)) (stores (now (gprs .entry)) (now (config .entry)) (now (dest .entry)) (now (marks .entry)) (now («src_a» .entry)) (now («src_b» .entry)))) ⌝ }
+    ensures { λ r. ⌜ summary (toldEnding (r .answer)) (r .turns) (machine (r .control) (now (settings .exit)) (stores (now (gprs .exit)) (now (config .exit)) (now (dest .entry)) (now (marks .exit)) (now («src_a» .exit)) (now («src_b» .exit)))) (r .cursor) ≡ runsOf (streams (now (s0 .entry)) (now (s1 .entry)) (now (s2 .entry))) budget times (machine control (now (settings .entry)) (stores (now (gprs .entry)) (now (config .entry)) (now (dest .entry)) (now (marks .entry)) (now («src_a» .entry)) (now («src_b» .entry)))) ⌝ }
 {
     let mut ran = Ran {
         answer: Ending::Finished,
@@ -148,7 +149,7 @@ fn repeat_runs(
 
 // 0 finished, 1 stuck, 2 budget; a refused word is 100 more than its number, a refused call 200 more.
 fn ending_number(e: Ending) -> u32
-    ensures { λ r. ⌜ r ≡ endingNumber e ⌝ }
+    ensures { λ r. ⌜ r ≡ endingNumber (toldEnding e) ⌝ }
 {
     match e {
         Ending::Finished => 0,

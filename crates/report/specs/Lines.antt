@@ -1,10 +1,9 @@
 -- The lines that the programs print (document 01, "Program and cases"). 10 ends a line, 32 is a space, 47 is `/`, 116 is `t`.
 use Prim.Native.Nat.{ℕ, _+_}
 use mathlib.Core.List.{List, [], _∷_, _++_}
-use Rattle.machine.specs.Numbers.{numberOf}
+use Rattle.answers.specs.Answers.{Told, accepted, refused}
 use Rattle.turns.specs.declared.cursor.Cursor.{Cursor}
-use Rattle.turns.specs.declared.ending.Ending.{Ending}
-use Rattle.turns.specs.declared.ending.Ending.the-variants.{Finished, Stuck, BudgetUsed, WordRefused, CallRefused}
+use Rattle.turns.specs.Ending.{RunEnd, finished, stuck, budgetUsed, wordRefused}
 use Rattle.text.specs.Decimal.{decimal}
 use Rattle.report.specs.Words.{endWord, finishedWord, stuckWord, budgetWord, refusedWord, rejectedWord, turnsWord}
 
@@ -19,12 +18,12 @@ abbrev pub wordLine : List ℕ → List ℕ
 wordLine words = endWord ++ (words ++ lineEnd)
 
 -- `end finished`, `end stuck`, `end budget`, `end refused N`; of a refused call `rejected N`
-unfoldable pub endLine : Ending → List ℕ
-endLine Finished = wordLine finishedWord
-endLine Stuck = wordLine stuckWord
-endLine BudgetUsed = wordLine budgetWord
-endLine (WordRefused r) = endWord ++ numberLine refusedWord (numberOf r)
-endLine (CallRefused r) = numberLine rejectedWord (numberOf r)
+unfoldable pub endLine : Told RunEnd → List ℕ
+endLine (accepted finished) = wordLine finishedWord
+endLine (accepted stuck) = wordLine stuckWord
+endLine (accepted budgetUsed) = wordLine budgetWord
+endLine (accepted (wordRefused n vs)) = endWord ++ numberLine refusedWord n
+endLine (refused n vs) = numberLine rejectedWord n
 
 -- `t0 1/1`: the thread, its position and how many words it has
 unfoldable pub threadLine : ℕ → ℕ → ℕ → List ℕ
@@ -35,5 +34,5 @@ unfoldable pub threadLines : Cursor → ℕ → ℕ → ℕ → List ℕ
 threadLines c n0 n1 n2 = threadLine 0 (c .at0) n0 ++ (threadLine 1 (c .at1) n1 ++ threadLine 2 (c .at2) n2)
 
 -- the five lines of a run
-unfoldable pub runLines : Ending → ℕ → Cursor → ℕ → ℕ → ℕ → List ℕ
+unfoldable pub runLines : Told RunEnd → ℕ → Cursor → ℕ → ℕ → ℕ → List ℕ
 runLines e turns c n0 n1 n2 = endLine e ++ (numberLine turnsWord turns ++ threadLines c n0 n1 n2)

@@ -5,6 +5,7 @@ ghost use mathlib.Core.List.{_++_};
 ghost use Prim.Native.Nat.{_+_, _≤_};
 ghost use lib.ListN.{length};
 ghost use Rattle.bits.specs.Overwrite.{Wrote};
+ghost use Rattle.turns.specs.Ending.{toldEnding};
 ghost use Rattle.report.specs.Words.{turnsWord, nextWord, badRecordWord, badImageWord};
 ghost use Rattle.report.specs.Lines.{lineEnd, numberLine, wordLine, endLine, threadLine, threadLines, runLines};
 use machine::refusal;
@@ -36,7 +37,7 @@ fn put_word_line(out: &mut [u8], at: usize, words: &[u8]) -> usize
 // How a run ended.
 pub fn put_end_line(out: &mut [u8], at: usize, e: Ending) -> usize
     requires { ⌜ at + 80 ≤ length (now out) ⌝ }
-    ensures { λ r. ⌜ Wrote (now (out .entry)) at (endLine e) (now (out .exit)) r ⌝ }
+    ensures { λ r. ⌜ Wrote (now (out .entry)) at (endLine (toldEnding e)) (now (out .exit)) r ⌝ }
     ensures short { λ r. ⌜ r ≤ at + 40 ⌝ }
 {
     match e {
@@ -91,7 +92,7 @@ pub fn put_run_lines(
     n2: usize,
 ) -> usize
     requires { ⌜ at + 300 ≤ length (now out) ⌝ }
-    ensures { λ r. ⌜ Wrote (now (out .entry)) at (runLines e turns c n0 n1 n2) (now (out .exit)) r ⌝ }
+    ensures { λ r. ⌜ Wrote (now (out .entry)) at (runLines (toldEnding e) turns c n0 n1 n2) (now (out .exit)) r ⌝ }
     ensures short { λ r. ⌜ r ≤ at + 250 ⌝ }
 {
     let p = put_end_line(out, at, e);

@@ -2,26 +2,29 @@
 use Prim.Native.Nat.{ℕ, _+_, _≤_}
 use mathlib.Core.Path.{_≡_, refl, sym, ap, _∙_}
 use mathlib.Core.Bool.{Bool, true, false, cond}
-use mathlib.Core.List.{List}
+use mathlib.Core.List.{List, [], _∷_}
 use native.Mathlib.Omega.{arith}
 use lib.ListN.{length}
 use Rattle.bits.specs.Bytes.{Bytes}
 use Rattle.bits.proofs.Choices.{and-left}
 use Rattle.machine.specs.declared.refusal.Refusal.{Refusal}
 use Rattle.machine.specs.declared.refusal.Refusal.the-variants.{BadImage}
+use Rattle.machine.specs.Numbers.{numberOf, valuesOf}
 use Rattle.machine.specs.Machine.{Machine}
 use Rattle.machine.specs.Formed.{sized, formed, wellFormed}
 use Rattle.machine.specs.Fresh.{freshMachine}
 use Rattle.machine.proofs.FreshLaws.{fresh-formed}
-use Rattle.format.specs.Format.{accepts}
-use Rattle.image.specs.declared.LoadAnswer.{LoadAnswer}
-use Rattle.image.specs.declared.LoadAnswer.the-variants.{Taken, NotLoaded}
-use Rattle.layout.specs.Image.{image, imageSize}
-use Rattle.image.specs.Calls.{Loading, loading, loadAnswer, machineLoaded, loadOf}
-use Rattle.image.proofs.Answers.{taken-means}
-use Rattle.image.proofs.Trips.{round-trips}
+use Rattle.machine.proofs.Refusals.{nine-means}
+use Rattle.answers.specs.Answers.{Told, accepted, refused, refusal, Call}
 use Rattle.turns.specs.Streams.{Streams}
 use Rattle.run_rules.specs.Run.{runOf, summaryOf}
+use Rattle.format.specs.Format.{accepts}
+use Rattle.layout.specs.Image.{image, imageSize}
+use Rattle.image.specs.declared.LoadAnswer.{LoadAnswer}
+use Rattle.image.specs.declared.LoadAnswer.the-variants.{Taken, NotLoaded}
+use Rattle.image.specs.Calls.{toldLoad, loading, loadCheck, loadOf}
+use Rattle.image.proofs.Answers.{taken-means, load-answer, load-machine}
+use Rattle.image.proofs.Trips.{round-trips}
 use Rattle.records.specs.declared.resume_script.ResumeScript.{ResumeScript}
 use Rattle.records.specs.declared.resume_script.ResumeRead.{ResumeRead}
 use Rattle.records.specs.declared.resume_script.ResumeRead.the-variants.{Whole, Faulty}
@@ -66,36 +69,41 @@ module _ (came tail : List ℕ) (m : Machine) (r : ResumeRead) (e : r ≡ resume
   records-whole s h = sym (ap (λ (x : ResumeRead). byRecords came tail m x) h) ∙ by-read
 
 -- an image that was not taken, into parts of the right sizes, is a bad one
-bad-means : (fine : Bool) (g : ℕ) (r : Refusal) → cond fine Taken (NotLoaded (BadImage g)) ≡ NotLoaded r → (fine ≡ false) × (r ≡ BadImage g)
+bad-means : (fine : Bool) (g : ℕ) (r : Refusal) → _≡_ {A = Told (Unit {0})} (cond fine (accepted tt) (refused 9 (g ∷ []))) (refusal r) →
+    (fine ≡ false) × (r ≡ BadImage g)
 bad-means true g r e = let z : _≡_ {A = ℕ} 0 1 = cc in absurd (omega arith)
-bad-means false g r e = (refl, cc)
+bad-means false g r e =
+    let n : numberOf r ≡ 9 = cc in
+    let v : valuesOf r ≡ g ∷ [] = cc in
+    (refl, nine-means r g n v)
 
 fresh-sized : sized freshMachine ≡ true
 fresh-sized = and-left (sized freshMachine) (formed freshMachine) fresh-formed
 
 module _ (came tail : List ℕ) (a : LoadAnswer) (m : Machine) (e : loading a m ≡ loadOf came freshMachine) where
-  answered : a ≡ loadAnswer (sized freshMachine) came
-  unfolding loadOf
-  answered = ap (λ (x : Loading). x .answer) e
+  answered : toldLoad a ≡ loadCheck (sized freshMachine) came
+  answered = ap (λ (x : Call Machine). x .answer) e ∙ load-answer came freshMachine
 
   pub parts-bad : (r : Refusal) (n : ℕ) → ((at : ℕ) → r ≡ BadImage at → n ≡ at) → a ≡ NotLoaded r → numberLine badImageWord n ≡ partsOf came tail
-  unfolding partsOf imageFine imageGood loadAnswer
+  unfolding partsOf imageFine imageGood loadCheck
   parts-bad r n f h =
-      let told : loadAnswer true came ≡ NotLoaded r = ap (λ (b : Bool). loadAnswer b came) (sym fresh-sized) ∙ sym answered ∙ h in
+      let told : loadCheck true came ≡ refusal r = ap (λ (b : Bool). loadCheck b came) (sym fresh-sized) ∙ sym answered ∙ ap toldLoad h in
       let b = bad-means (accepts image came) (image .good came) r told in
       rw (b .0, f (image .good came) (b .1))
 
+  fine : a ≡ Taken → loadCheck (sized freshMachine) came ≡ accepted tt
+  fine h = sym answered ∙ ap toldLoad h
+
   taken : a ≡ Taken → m ≡ image .get came
-  unfolding loadOf
-  taken h = ap (λ (x : Loading). x .machine) e ∙ ap (λ (x : LoadAnswer). machineLoaded x came freshMachine) (sym answered ∙ h)
+  taken h = ap (λ (x : Call Machine). x .after) e ∙ load-machine came freshMachine (fine h)
 
   pub parts-taken : a ≡ Taken → recordsOf came tail m ≡ partsOf came tail
   unfolding partsOf imageFine imageMachine
   parts-taken h =
-      let fine = taken-means (sized freshMachine) came (sym answered ∙ h) .1 in
-      rw fine (ap (λ (x : Machine). recordsOf came tail x) (taken h))
+      let accepts = taken-means (sized freshMachine) came (fine h) .1 in
+      rw accepts (ap (λ (x : Machine). recordsOf came tail x) (taken h))
 
   pub loaded-formed : a ≡ Taken → Bytes came → wellFormed m ≡ true
   loaded-formed h b =
-      ap (λ (x : Loading). wellFormed (x .machine)) e
-      ∙ round-trips .formed came freshMachine b (sym (ap (λ (x : Loading). x .answer) e) ∙ h)
+      ap (λ (x : Call Machine). wellFormed (x .after)) e
+      ∙ round-trips .formed came freshMachine b (load-answer came freshMachine ∙ fine h)

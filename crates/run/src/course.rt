@@ -2,6 +2,7 @@
 ghost use mathlib.Core.Path.{_≡_};
 ghost use Rattle.machine.specs.Machine.{machine, stores};
 ghost use Rattle.turns.specs.Streams.{streams};
+ghost use Rattle.turns.specs.Ending.{toldEnding};
 ghost use Rattle.run_rules.specs.Ready.{Ready};
 ghost use Rattle.run_rules.specs.Run.{runFrom, summaryOf, summary};
 ghost use Rattle.run.specs.Ran.{ran};
@@ -44,7 +45,7 @@ pub(crate) fn take_turns(
     budget: u32,
 ) -> Ran
     requires { ⌜ Ready (streams (now s0) (now s1) (now s2)) (machine control (now settings) (stores (now gprs) (now config) (now dest) (now marks) (now «src_a») (now «src_b»))) cursor ⌝ }
-    ensures { λ r. ⌜ summary (r .answer) (r .turns) (machine (r .control) (now (settings .exit)) (stores (now (gprs .exit)) (now (config .exit)) (now (dest .entry)) (now (marks .exit)) (now («src_a» .exit)) (now («src_b» .exit)))) (r .cursor) ≡ summaryOf (runFrom budget (streams (now (s0 .entry)) (now (s1 .entry)) (now (s2 .entry))) 0 (machine control (now (settings .entry)) (stores (now (gprs .entry)) (now (config .entry)) (now (dest .entry)) (now (marks .entry)) (now («src_a» .entry)) (now («src_b» .entry)))) cursor) ⌝ }
+    ensures { λ r. ⌜ summary (toldEnding (r .answer)) (r .turns) (machine (r .control) (now (settings .exit)) (stores (now (gprs .exit)) (now (config .exit)) (now (dest .entry)) (now (marks .exit)) (now («src_a» .exit)) (now («src_b» .exit)))) (r .cursor) ≡ summaryOf (runFrom budget (streams (now (s0 .entry)) (now (s1 .entry)) (now (s2 .entry))) 0 (machine control (now (settings .entry)) (stores (now (gprs .entry)) (now (config .entry)) (now (dest .entry)) (now (marks .entry)) (now («src_a» .entry)) (now («src_b» .entry)))) cursor) ⌝ }
 {
     let mut k = control;
     let mut c = cursor;

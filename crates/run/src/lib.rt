@@ -5,14 +5,14 @@ mod turn;
 ghost use mathlib.Core.Path.{_≡_};
 ghost use Rattle.machine.specs.Machine.{machine, stores};
 ghost use Rattle.turns.specs.Streams.{streams};
+ghost use Rattle.turns.specs.Ending.{toldEnding};
 ghost use Rattle.run_rules.specs.Run.{runOf, summaryOf, summary};
-ghost use Rattle.run_rules.specs.Numbers.{answerNumbers};
 use crate::course::take_turns;
+use answers::Access;
 use machine::control::Control;
 use run_checks::check_call;
 use turns::cursor::Cursor;
 use turns::ending::Ending;
-use turns::ending::Halt;
 
 // How a run ended, the turns it took, and the control part and cursor that it leaves. The rest of the machine is written
 // where it is lent.
@@ -39,10 +39,9 @@ pub fn run(
     cursor: Cursor,
     budget: u32,
 ) -> Ran
-    ensures { λ r. ⌜ summary (r .answer) (r .turns) (machine (r .control) (now (settings .exit)) (stores (now (gprs .exit)) (now (config .exit)) (now (dest .entry)) (now (marks .exit)) (now («src_a» .exit)) (now («src_b» .exit)))) (r .cursor) ≡ summaryOf (runOf (streams (now (s0 .entry)) (now (s1 .entry)) (now (s2 .entry))) (machine control (now (settings .entry)) (stores (now (gprs .entry)) (now (config .entry)) (now (dest .entry)) (now (marks .entry)) (now («src_a» .entry)) (now («src_b» .entry)))) cursor budget) ⌝ }
-    ensures numbers { λ r. ⌜ answerNumbers (r .answer) ≡ answerNumbers (runOf (streams (now (s0 .entry)) (now (s1 .entry)) (now (s2 .entry))) (machine control (now (settings .entry)) (stores (now (gprs .entry)) (now (config .entry)) (now (dest .entry)) (now (marks .entry)) (now («src_a» .entry)) (now («src_b» .entry)))) cursor budget .answer) ⌝ }
+    ensures { λ r. ⌜ summary (toldEnding (r .answer)) (r .turns) (machine (r .control) (now (settings .exit)) (stores (now (gprs .exit)) (now (config .exit)) (now (dest .entry)) (now (marks .exit)) (now («src_a» .exit)) (now («src_b» .exit)))) (r .cursor) ≡ summaryOf (runOf (streams (now (s0 .entry)) (now (s1 .entry)) (now (s2 .entry))) (machine control (now (settings .entry)) (stores (now (gprs .entry)) (now (config .entry)) (now (dest .entry)) (now (marks .entry)) (now («src_a» .entry)) (now («src_b» .entry)))) cursor budget) ⌝ }
 {
-    let h = check_call(
+    let k = check_call(
         control,
         &settings[..],
         &gprs[..],
@@ -57,14 +56,14 @@ pub fn run(
         cursor,
         budget,
     );
-    match h {
-        Halt::Ends(a) => Ran {
-            answer: a,
+    match k {
+        Access::Denied(r) => Ran {
+            answer: Ending::CallRefused(r),
             turns: 0,
             control,
             cursor,
         },
-        Halt::GoesOn => take_turns(
+        Access::Granted => take_turns(
             control,
             settings,
             gprs,

@@ -1,6 +1,7 @@
 // One turn.
 ghost use mathlib.Core.Path.{_≡_};
 ghost use Rattle.machine.specs.Machine.{machine, stores};
+ghost use Rattle.answers.specs.Outcomes.{toldOutcome};
 ghost use Rattle.turns.specs.Streams.{streams};
 ghost use Rattle.run_rules.specs.Turn.{turned, turnOf};
 ghost use Rattle.run_rules.specs.Ready.{Ready};
@@ -35,7 +36,7 @@ pub(crate) fn turn(
     c: Cursor,
 ) -> Turned
     requires { ⌜ Ready (streams (now s0) (now s1) (now s2)) (machine control (now settings) (stores (now gprs) (now config) (now dest) (now marks) (now «src_a») (now «src_b»))) c ⌝ }
-    ensures { λ r. ⌜ turned (r .outcome) (machine (r .control) (now (settings .exit)) (stores (now (gprs .exit)) (now (config .exit)) (now (dest .entry)) (now (marks .exit)) (now («src_a» .exit)) (now («src_b» .exit)))) (r .cursor) ≡ turnOf (streams (now (s0 .entry)) (now (s1 .entry)) (now (s2 .entry))) (machine control (now (settings .entry)) (stores (now (gprs .entry)) (now (config .entry)) (now (dest .entry)) (now (marks .entry)) (now («src_a» .entry)) (now («src_b» .entry)))) c ⌝ }
+    ensures { λ r. ⌜ turned (toldOutcome (r .outcome)) (machine (r .control) (now (settings .exit)) (stores (now (gprs .exit)) (now (config .exit)) (now (dest .entry)) (now (marks .exit)) (now («src_a» .exit)) (now («src_b» .exit)))) (r .cursor) ≡ turnOf (streams (now (s0 .entry)) (now (s1 .entry)) (now (s2 .entry))) (machine control (now (settings .entry)) (stores (now (gprs .entry)) (now (config .entry)) (now (dest .entry)) (now (marks .entry)) (now («src_a» .entry)) (now («src_b» .entry)))) c ⌝ }
 {
     let w = next_word(s0, s1, s2, c);
     match w {

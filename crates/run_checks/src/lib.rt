@@ -1,15 +1,16 @@
 // The refusals of a call, in document 01's order: 4, 10, 5, 6.
 ghost use mathlib.Core.Path.{_≡_};
+ghost use mathlib.Core.Bool.{cond};
 ghost use Rattle.machine.specs.Machine.{machine, stores};
+ghost use Rattle.answers.specs.Answers.{refusal, told};
 ghost use Rattle.turns.specs.Streams.{streams};
-ghost use Rattle.run_rules.specs.Checks.{needed, streamsSized, placed, callCheck};
+ghost use Rattle.run_rules.specs.Checks.{streamsSized, placed, callCheck};
+use answers::Access;
 use machine::control::Control;
 use machine::refusal::Refusal;
 use machine::sizes::MOST_TURNS;
 use machine::sizes::STREAM_WORDS;
 use turns::cursor::Cursor;
-use turns::ending::Ending;
-use turns::ending::Halt;
 
 // No stream is over 65,536 words.
 fn streams_sized(s0: &[u32], s1: &[u32], s2: &[u32]) -> bool
@@ -33,13 +34,13 @@ fn is_placed(s0: &[u32], s1: &[u32], s2: &[u32], c: Cursor) -> bool
 }
 
 // The refusal, unless the test holds.
-fn need(holds: bool, r: Refusal, rest: Halt) -> Halt
-    ensures { λ h. ⌜ h ≡ needed holds r rest ⌝ }
+fn need(holds: bool, r: Refusal, rest: Access) -> Access
+    ensures { λ a. ⌜ told a ≡ cond holds (told rest) (refusal r) ⌝ }
 {
     if holds {
         return rest;
     }
-    Halt::Ends(Ending::CallRefused(r))
+    Access::Denied(r)
 }
 
 // The first refusal of a call, where there is one.
@@ -57,15 +58,15 @@ pub fn check_call(
     s2: &[u32],
     c: Cursor,
     budget: u32,
-) -> Halt
-    ensures { λ r. ⌜ r ≡ callCheck (streams (now (s0 .entry)) (now (s1 .entry)) (now (s2 .entry))) (machine control (now (settings .entry)) (stores (now (gprs .entry)) (now (config .entry)) (now (dest .entry)) (now (marks .entry)) (now («src_a» .entry)) (now («src_b» .entry)))) c budget ⌝ }
+) -> Access
+    ensures { λ r. ⌜ told r ≡ callCheck (streams (now (s0 .entry)) (now (s1 .entry)) (now (s2 .entry))) (machine control (now (settings .entry)) (stores (now (gprs .entry)) (now (config .entry)) (now (dest .entry)) (now (marks .entry)) (now («src_a» .entry)) (now («src_b» .entry)))) c budget ⌝ }
 {
     let sized = formed::machine_sized(control, settings, gprs, config, dest, marks, src_a, src_b);
     let lengths = bits::both(sized, streams_sized(s0, s1, s2));
     let ranges = formed::machine_formed(control, settings, gprs, config, dest, marks, src_a, src_b);
     let place = is_placed(s0, s1, s2, c);
     let few = budget <= MOST_TURNS;
-    let h6 = need(few, Refusal::BadBudget, Halt::GoesOn);
+    let h6 = need(few, Refusal::BadBudget, Access::Granted);
     let h5 = need(place, Refusal::BadCursor, h6);
     let h10 = need(ranges, Refusal::Malformed, h5);
     need(lengths, Refusal::BadLength, h10)

@@ -1,35 +1,34 @@
 -- A call: what its checks show, and the run that it is.
 use Prim.Native.Nat.{ℕ, _≤_}
-use mathlib.Core.Path.{_≡_, refl, ap}
-use mathlib.Core.Bool.{Bool, true, false, cond, _&&_}
+use mathlib.Core.Path.{_≡_, refl}
+use mathlib.Core.Bool.{Bool, true, false, _&&_}
 use native.Mathlib.Omega.{arith}
 use lib.Dec.{leb}
 use lib.ListN.{length}
 use borrow.Author.Tests.{leb-true, le-leb}
 use Rattle.bits.proofs.Choices.{and-left, and-right, and-intro}
 use Rattle.machine.specs.declared.refusal.Refusal.{Refusal}
-use Rattle.machine.specs.declared.refusal.Refusal.the-variants.{BadLength, Malformed, BadCursor, BadBudget}
 use Rattle.machine.specs.Sizes.{streamMost, budgetMost}
 use Rattle.machine.specs.Machine.{Machine}
-use Rattle.machine.specs.Formed.{sized, formed, wellFormed}
+use Rattle.machine.specs.Formed.{sized, formed}
+use Rattle.answers.specs.declared.Access.{Access}
+use Rattle.answers.specs.declared.Access.the-variants.{Granted, Denied}
+use Rattle.answers.specs.Answers.{Told, accepted, refusal, told, provided}
 use Rattle.turns.specs.declared.cursor.Cursor.{Cursor}
-use Rattle.turns.specs.declared.ending.Ending.{Ending}
-use Rattle.turns.specs.declared.ending.Halt.{Halt}
-use Rattle.turns.specs.declared.ending.Halt.the-variants.{Ends, GoesOn}
 use Rattle.turns.specs.Streams.{Streams}
-use Rattle.run_rules.specs.Checks.{streamsSized, placed, needed, callCheck}
+use Rattle.turns.specs.Ending.{goesOn}
+use Rattle.run_rules.specs.Checks.{streamsSized, placed, callCheck, callHalt}
 use Rattle.run_rules.specs.Ready.{Lengths, Within, Ready}
-use Rattle.run_rules.specs.Run.{Run, Summary, stop, runFrom, runOf}
-use Rattle.run_rules.specs.Numbers.{answerNumbers}
+use Rattle.run_rules.specs.Run.{stop, runFrom, runOf}
 
-module _ (s : Streams) (m : Machine) (c : Cursor) (budget : ℕ) (h : Halt) (eh : h ≡ callCheck s m c budget) where
-  pub call-refused : (a : Ending) → h ≡ Ends a → stop a m c ≡ runOf s m c budget
+module _ (s : Streams) (m : Machine) (c : Cursor) (budget : ℕ) (k : Access) (ek : told k ≡ callCheck s m c budget) where
+  pub call-refused : (r : Refusal) → k ≡ Denied r → stop (refusal r) m c ≡ runOf s m c budget
   unfolding runOf
-  call-refused a e = rw (← eh, e)
+  call-refused r e = rw (← ek, e)
 
-  pub call-runs : h ≡ GoesOn → runFrom budget s 0 m c ≡ runOf s m c budget
+  pub call-runs : k ≡ Granted → runFrom budget s 0 m c ≡ runOf s m c budget
   unfolding runOf
-  call-runs e = rw (← eh, e)
+  call-runs e = rw (← ek, e)
 
 lengths-of : (s : Streams) → streamsSized s ≡ true → Lengths s
 unfolding streamsSized
@@ -71,31 +70,38 @@ of-within s c w =
     let last : c .next ≤ 2 = omega arith in
     rw (le-leb _ _ (w .at0), le-leb _ _ (w .at1), le-leb _ _ (w .at2), le-leb _ _ last)
 
-need-holds : (b : Bool) (r : Refusal) (h : Halt) → needed b r h ≡ GoesOn → (b ≡ true) × (h ≡ GoesOn)
-need-holds true r h e = (refl, e)
-need-holds false r h e = let z : _≡_ {A = ℕ} 0 1 = cc in absurd (omega arith)
+need-holds : (b : Bool) (n : ℕ) (x : Told (Unit {0})) → callHalt (provided b n x) ≡ goesOn → (b ≡ true) × (callHalt x ≡ goesOn)
+need-holds true n x e = (refl, e)
+need-holds false n x e = let z : _≡_ {A = ℕ} 0 1 = cc in absurd (omega arith)
 
--- a call that is not refused is ready, and one that is ready, with a budget within its limit, is not refused
-pub call-ready : (s : Streams) (m : Machine) (c : Cursor) (budget : ℕ) → callCheck s m c budget ≡ GoesOn → Ready s m c
+-- what the checks of a call that is not refused have shown
+pub record Checked (s : Streams) (m : Machine) (c : Cursor) (budget : ℕ) : Type 0 where
+  pub ready : Ready s m c
+  pub few : budget ≤ budgetMost
+
+pub call-checked : (s : Streams) (m : Machine) (c : Cursor) (budget : ℕ) → callHalt (callCheck s m c budget) ≡ goesOn → Checked s m c budget
 unfolding callCheck
-call-ready s m c budget e =
-    let h6 = needed (leb budget budgetMost) BadBudget GoesOn in
-    let h5 = needed (placed s c) BadCursor h6 in
-    let h10 = needed (formed m) Malformed h5 in
-    let e4 = need-holds (sized m && streamsSized s) BadLength h10 e in
-    let e10 = need-holds (formed m) Malformed h5 (e4 .1) in
-    let e5 = need-holds (placed s c) BadCursor h6 (e10 .1) in
+call-checked s m c budget e =
+    let h6 = provided (leb budget budgetMost) 6 (accepted tt) in
+    let h5 = provided (placed s c) 5 h6 in
+    let e4 = need-holds (sized m && streamsSized s) 4 (provided (formed m) 10 h5) e in
+    let e10 = need-holds (formed m) 10 h5 (e4 .1) in
+    let e5 = need-holds (placed s c) 5 h6 (e10 .1) in
+    let e6 = need-holds (leb budget budgetMost) 6 (accepted tt) (e5 .1) in
     record {
-      whole = and-intro (sized m) (formed m) (and-left (sized m) (streamsSized s) (e4 .0)) (e10 .0);
-      lengths = lengths-of s (and-right (sized m) (streamsSized s) (e4 .0));
-      within = within-of s c (e5 .0);
+      ready = record {
+        whole = and-intro (sized m) (formed m) (and-left (sized m) (streamsSized s) (e4 .0)) (e10 .0);
+        lengths = lengths-of s (and-right (sized m) (streamsSized s) (e4 .0));
+        within = within-of s c (e5 .0);
+      };
+      few = leb-true budget budgetMost (e6 .0);
     }
 
-pub ready-call : (s : Streams) (m : Machine) (c : Cursor) (budget : ℕ) → Ready s m c → budget ≤ budgetMost → callCheck s m c budget ≡ GoesOn
+pub granted-ready : (s : Streams) (m : Machine) (c : Cursor) (budget : ℕ) (k : Access) → told k ≡ callCheck s m c budget → k ≡ Granted → Ready s m c
+granted-ready s m c budget k e h = call-checked s m c budget (rw (← e, h)) .ready
+
+-- a call that is ready, with a budget within its limit, is not refused
+pub ready-call : (s : Streams) (m : Machine) (c : Cursor) (budget : ℕ) → Ready s m c → budget ≤ budgetMost → callCheck s m c budget ≡ accepted tt
 unfolding callCheck
 ready-call s m c budget r h =
     rw (and-left (sized m) (formed m) (r .whole), and-right (sized m) (formed m) (r .whole), of-lengths s (r .lengths), of-within s c (r .within), le-leb budget budgetMost h)
-
--- equal summaries have equal numbers
-pub numbered : (x y : Summary) → x ≡ y → (x ≡ y) × (answerNumbers (x .answer) ≡ answerNumbers (y .answer))
-numbered x y e = (e, ap (λ (z : Summary). answerNumbers (z .answer)) e)

@@ -14,10 +14,10 @@ use Rattle.turns.specs.declared.ending.Halt.{Halt}
 use Rattle.turns.specs.declared.ending.Halt.the-variants.{Ends, GoesOn}
 use Rattle.turns.specs.Streams.{Streams}
 use Rattle.run_rules.specs.Turn.{Turn, turnOf}
-use Rattle.turns.specs.Ending.{haltOf, refusedWord, quietAfter}
+use Rattle.turns.specs.Ending.{haltOf, refusedWord, quietAfter, goesOn, toldEnding, toldHalt}
 use Rattle.run_rules.specs.Run.{Run, before, runFrom, Summary, summary, summaryOf}
 use Rattle.run_rules.specs.Ready.{Ready}
-use Rattle.run_rules.proofs.Halting.{turn-due, run-halts, run-refused, run-on}
+use Rattle.run_rules.proofs.Halting.{due-after, run-halts, run-refused, run-on}
 use Rattle.run_rules.proofs.Turning.{turn-ready}
 
 -- what comes back of a run, where `turns` turns went before it
@@ -53,23 +53,23 @@ going-start s budget m c r =
 one-less : (budget turns : ℕ) → 0 < budget - turns → budget - turns ≡ suc (budget - (turns + 1))
 one-less budget turns h = omega arith
 
-module _ (s : Streams) (budget : ℕ) (m₀ : Machine) (c₀ : Cursor) (m : Machine) (c : Cursor) (quiet turns : ℕ) (g : Going s budget m₀ c₀ m c quiet turns) (h : Halt) (eh : h ≡ haltOf s c quiet (budget - turns)) where
-  pub going-ends : (a : Ending) → h ≡ Ends a → summary a turns m c ≡ summaryOf (runFrom budget s 0 m₀ c₀)
-  going-ends a e = rw (g .whole, run-halts s quiet m c (budget - turns) a (sym eh ∙ e), add-zero)
+module _ (s : Streams) (budget : ℕ) (m₀ : Machine) (c₀ : Cursor) (m : Machine) (c : Cursor) (quiet turns : ℕ) (g : Going s budget m₀ c₀ m c quiet turns) (h : Halt) (eh : toldHalt h ≡ haltOf s c quiet (budget - turns)) where
+  pub going-ends : (a : Ending) → h ≡ Ends a → summary (toldEnding a) turns m c ≡ summaryOf (runFrom budget s 0 m₀ c₀)
+  going-ends a e = rw (g .whole, run-halts s quiet m c (budget - turns) (toldEnding a) (sym eh ∙ ap toldHalt e), add-zero)
 
-  module _ (on : h ≡ GoesOn) (t : Turn) (et : t ≡ turnOf s m c) (f : Halt) (ef : f ≡ refusedWord (t .outcome)) where
+  module _ (on : h ≡ GoesOn) (t : Turn) (et : t ≡ turnOf s m c) (f : Halt) (ef : toldHalt f ≡ refusedWord (t .outcome)) where
     some : 0 < budget - turns
-    some = turn-due s c quiet (budget - turns) (sym eh ∙ on) .some
+    some = due-after s c quiet (budget - turns) h eh on .some
 
-    due : haltOf s c quiet (suc (budget - (turns + 1))) ≡ GoesOn
-    due = rw (← one-less budget turns some) (sym eh ∙ on)
+    due : haltOf s c quiet (suc (budget - (turns + 1))) ≡ goesOn
+    due = rw (← one-less budget turns some) (sym eh ∙ ap toldHalt on)
 
-    refused : refusedWord (turnOf s m c .outcome) ≡ f
-    refused = ap (λ (x : Turn). refusedWord (x .outcome)) (sym et) ∙ sym ef
+    word-halt : refusedWord (turnOf s m c .outcome) ≡ toldHalt f
+    word-halt = ap (λ (x : Turn). refusedWord (x .outcome)) (sym et) ∙ sym ef
 
-    pub going-refused : (a : Ending) → f ≡ Ends a → summary a (turns + 1) (t .after) (t .cursor) ≡ summaryOf (runFrom budget s 0 m₀ c₀)
+    pub going-refused : (a : Ending) → f ≡ Ends a → summary (toldEnding a) (turns + 1) (t .after) (t .cursor) ≡ summaryOf (runFrom budget s 0 m₀ c₀)
     going-refused a e =
-        rw (g .whole, one-less budget turns some, run-refused s quiet m c (budget - (turns + 1)) due a (refused ∙ e), ← et)
+        rw (g .whole, one-less budget turns some, run-refused s quiet m c (budget - (turns + 1)) due (toldEnding a) (word-halt ∙ ap toldHalt e), ← et)
 
     pub going-on : f ≡ GoesOn → (q : ℕ) → q ≡ quietAfter (t .outcome) quiet → Going s budget m₀ c₀ (t .after) (t .cursor) q (turns + 1)
     going-on e q eq =
@@ -80,6 +80,6 @@ module _ (s : Streams) (budget : ℕ) (m₀ : Machine) (c₀ : Cursor) (m : Mach
           sizes = ready-sizes s (t .after) (t .cursor) r;
           within = omega (arith, some);
           whole =
-              rw (g .whole, one-less budget turns some, run-on s quiet m c (budget - (turns + 1)) due (refused ∙ e), ← et, ← eq)
+              rw (g .whole, one-less budget turns some, run-on s quiet m c (budget - (turns + 1)) due (word-halt ∙ ap toldHalt e), ← et, ← eq)
               (later-turn turns t (runFrom (budget - (turns + 1)) s q (t .after) (t .cursor)));
         }

@@ -2,26 +2,22 @@
 use Prim.Native.Nat.{ℕ, zero, suc}
 use mathlib.Core.Path.{_≡_, refl, ap}
 use mathlib.Core.Bool.{true}
-use mathlib.Core.List.{Forall₂, Forall₂·nil, Forall₂·cons}
+use mathlib.Core.List.{Forall₂·nil, Forall₂·cons}
 use Rattle.bits.proofs.Choices.{and-left, and-right}
-use Rattle.machine.specs.declared.refusal.Outcome.{Outcome}
 use Rattle.machine.specs.Machine.{Machine}
-use Rattle.machine.specs.Numbers.{outcomeNumbers}
 use Rattle.machine.specs.Formed.{sized, formed, wellFormed}
+use Rattle.answers.specs.Answers.{Told, accepted}
+use Rattle.answers.specs.Outcomes.{Progress}
 use Rattle.step_rules.specs.Alike.{Agree}
 use Rattle.step_rules.proofs.Alike.{offers-alike}
 use Rattle.turns.specs.declared.cursor.Cursor.{Cursor}
 use Rattle.turns.specs.declared.streams.Offered.{Offered}
 use Rattle.turns.specs.declared.streams.Offered.the-variants.{NextWord, NoWord}
-use Rattle.turns.specs.declared.ending.Ending.{Ending}
-use Rattle.turns.specs.declared.ending.Ending.the-variants.{BudgetUsed}
-use Rattle.turns.specs.declared.ending.Halt.{Halt}
-use Rattle.turns.specs.declared.ending.Halt.the-variants.{Ends, GoesOn}
 use Rattle.turns.specs.Streams.{Streams, nextWord}
 use Rattle.turns.specs.Cursor.{movedOf}
+use Rattle.turns.specs.Ending.{haltOf, refusedWord, quietAfter, RunEnd, Halted, halts, goesOn, budgetUsed}
 use Rattle.run_rules.specs.Turn.{Turn, byWord, turnOf}
-use Rattle.turns.specs.Ending.{haltOf, refusedWord, quietAfter}
-use Rattle.run_rules.specs.Checks.{callCheck}
+use Rattle.run_rules.specs.Checks.{callCheck, callHalt}
 use Rattle.run_rules.specs.Run.{Run, stop, before, unless, runFrom, runOf}
 use Rattle.run_rules.specs.Isolation.{TurnsAlike, RunsAlike, Isolated}
 
@@ -30,19 +26,18 @@ unfolding turnOf
 turns-alike s c m n a = go (nextWord s c)
   where
     go : (o : Offered) → TurnsAlike (byWord m c o) (byWord n c o)
-    go NoWord = record { outcome = refl; numbers = refl; agree = a; cursor = refl }
+    go NoWord = record { outcome = refl; agree = a; cursor = refl }
     go (NextWord w) =
         let x = offers-alike m n (c .next) w a in
         record {
           outcome = x .outcome;
-          numbers = ap outcomeNumbers (x .outcome);
           agree = x .agree;
-          cursor = ap (λ (o : Outcome). movedOf o c) (x .outcome);
+          cursor = ap (λ (o : Told Progress). movedOf o c) (x .outcome);
         }
 
-stops-alike : (a : Ending) (c : Cursor) (m n : Machine) → Agree m n → RunsAlike (stop a m c) (stop a n c)
+stops-alike : (a : Told RunEnd) (c : Cursor) (m n : Machine) → Agree m n → RunsAlike (stop a m c) (stop a n c)
 stops-alike a c m n e =
-    record { count = refl; each = Forall₂·nil; answer = refl; numbers = refl; agree = e; cursor = refl }
+    record { count = refl; each = Forall₂·nil; answer = refl; agree = e; cursor = refl }
 
 before-alike : {t u : Turn} {p q : Run} → TurnsAlike t u → RunsAlike p q → RunsAlike (before t p) (before u q)
 before-alike x r =
@@ -50,19 +45,18 @@ before-alike x r =
       count = ap suc (r .count);
       each = Forall₂·cons x (r .each);
       answer = r .answer;
-      numbers = r .numbers;
       agree = r .agree;
       cursor = r .cursor;
     }
 
-unless-alike : (h : Halt) (c : Cursor) (m n : Machine) {p q : Run} → Agree m n → RunsAlike p q → RunsAlike (unless h m c p) (unless h n c q)
-unless-alike (Ends a) c m n e r = stops-alike a c m n e
-unless-alike GoesOn c m n e r = r
+unless-alike : (h : Halted) (c : Cursor) (m n : Machine) {p q : Run} → Agree m n → RunsAlike p q → RunsAlike (unless h m c p) (unless h n c q)
+unless-alike (halts a) c m n e r = stops-alike a c m n e
+unless-alike goesOn c m n e r = r
 
 from-alike : (left : ℕ) (s : Streams) (quiet : ℕ) (c : Cursor) (m n : Machine) → Agree m n →
     RunsAlike (runFrom left s quiet m c) (runFrom left s quiet n c)
 unfolding runFrom
-from-alike zero s quiet c m n a = unless-alike (haltOf s c quiet 0) c m n a (stops-alike BudgetUsed c m n a)
+from-alike zero s quiet c m n a = unless-alike (haltOf s c quiet 0) c m n a (stops-alike (accepted budgetUsed) c m n a)
 from-alike (suc left) s quiet c m n a =
     let t = turnOf s m c in
     let u = turnOf s n c in
@@ -81,4 +75,4 @@ checks-alike s c budget m n hm hn =
 pub isolated : Isolated
 unfolding runOf
 isolated s c budget m n hm hn a =
-    rw (checks-alike s c budget m n hm hn) (unless-alike (callCheck s n c budget) c m n a (from-alike budget s 0 c m n a))
+    rw (checks-alike s c budget m n hm hn) (unless-alike (callHalt (callCheck s n c budget)) c m n a (from-alike budget s 0 c m n a))

@@ -3,22 +3,21 @@ use Prim.Native.Nat.{ℕ, zero, suc, _+_, _-_, _≤_, _<_}
 use mathlib.Core.Path.{_≡_, refl, sym, ap, _∙_}
 use mathlib.Core.Bool.{Bool, true, false, cond}
 use mathlib.Core.Logic.{_⊎_, inl, inr, ⊎-elim}
-use mathlib.Core.List.{List, _∷_, List·Memᴰ, List·Memᴰ·not-nil, List·Memᴰ·cases-cons}
+use mathlib.Core.List.{List·Memᴰ, List·Memᴰ·not-nil, List·Memᴰ·cases-cons}
 use native.Mathlib.Nat.{zero-add}
 use native.Mathlib.Numerals.{add-one}
 use native.Mathlib.Omega.{arith}
-use lib.Dec.{leb, ltb, eqb, eqb·suc-zero}
+use lib.Dec.{leb, ltb, eqb·suc-zero}
 use lib.ListN.{length}
 use borrow.Author.Tests.{lt-ltb, le-ltb, le-leb, lt-leb, leb-true, leb-false}
 use Rattle.machine.specs.Machine.{Machine}
+use Rattle.answers.specs.declared.Access.the-variants.{Granted}
+use Rattle.answers.specs.Answers.{Told, accepted}
 use Rattle.turns.specs.declared.cursor.Cursor.{Cursor}
-use Rattle.turns.specs.declared.ending.Ending.{Ending}
-use Rattle.turns.specs.declared.ending.Ending.the-variants.{Stuck, BudgetUsed}
-use Rattle.turns.specs.declared.ending.Halt.the-variants.{GoesOn}
 use Rattle.turns.specs.Streams.{Streams, usedUp}
 use Rattle.turns.specs.Cursor.{onwardOf}
+use Rattle.turns.specs.Ending.{haltOf, RunEnd, goesOn, stuck, budgetUsed}
 use Rattle.run_rules.specs.Turn.{Turn, turnOf}
-use Rattle.turns.specs.Ending.{haltOf}
 use Rattle.run_rules.specs.Run.{Run, stop, before, runFrom, runOf}
 use Rattle.run_rules.specs.StuckForGood.{SamePositions, StillTurn, StuckForGood}
 use Rattle.run_rules.proofs.Halting.{run-halts, run-on}
@@ -47,8 +46,8 @@ same-onward c d p = record { at0 = p .at0; at1 = p .at1; at2 = p .at2 }
 abbrev turnsLeft : ℕ → ℕ → ℕ
 turnsLeft quiet left = cond (ltb (quiet + left) 3) left (3 - quiet)
 
-abbrev endsAs : ℕ → ℕ → Ending
-endsAs quiet left = cond (ltb (quiet + left) 3) BudgetUsed Stuck
+abbrev endsAs : ℕ → ℕ → Told RunEnd
+endsAs quiet left = cond (ltb (quiet + left) 3) (accepted budgetUsed) (accepted stuck)
 
 record Stays (m : Machine) (d : Cursor) (quiet left : ℕ) (r : Run) : Type 0 where
   each : (t : Turn) → List·Memᴰ t (r .turns) → StillTurn m d t
@@ -57,7 +56,7 @@ record Stays (m : Machine) (d : Cursor) (quiet left : ℕ) (r : Run) : Type 0 wh
   after : r .after ≡ m
   positions : SamePositions (r .cursor) d
 
-stays-stop : (m : Machine) (c d : Cursor) (quiet left : ℕ) (a : Ending) → SamePositions c d → turnsLeft quiet left ≡ 0 → endsAs quiet left ≡ a →
+stays-stop : (m : Machine) (c d : Cursor) (quiet left : ℕ) (a : Told RunEnd) → SamePositions c d → turnsLeft quiet left ≡ 0 → endsAs quiet left ≡ a →
     Stays m d quiet left (stop a m c)
 stays-stop m c d quiet left a p n e =
     record { each = λ t x. absurd (List·Memᴰ·not-nil x); count = sym n; answer = sym e; after = refl; positions = p }
@@ -98,7 +97,7 @@ module _ (s : Streams) (m : Machine) (d : Cursor) where
       let w = waited (turnOf s m c .outcome) c quiet (x .first) in
       let keeps = turn-waits s m c (x .first) in
       let moves = turn-moves s m c (x .first) in
-      let due : haltOf s c quiet (suc left) ≡ GoesOn = rw (x .words, lt-leb 3 quiet l, eqb·suc-zero left) in
+      let due : haltOf s c quiet (suc left) ≡ goesOn = rw (x .words, lt-leb 3 quiet l, eqb·suc-zero left) in
       rw (run-on s quiet m c left due (w .goes), w .counts, add-one quiet)
       (stays-before m d quiet left (turnOf s m c) _ l
       (record { outcome = x .first; after = keeps; positions = rw moves (same-onward c d p) })
@@ -109,13 +108,13 @@ module _ (s : Streams) (m : Machine) (d : Cursor) where
   stays-stuck left quiet c x p l =
       let none : ltb (quiet + left) 3 ≡ false = le-ltb (quiet + left) 3 (omega arith) in
       let zero-left : 3 - quiet ≡ 0 = omega arith in
-      rw (run-halts s quiet m c left Stuck (rw (x .words, le-leb 3 quiet l))) (stays-stop m c d quiet left Stuck p (rw (none, zero-left)) (rw none))
+      rw (run-halts s quiet m c left (accepted stuck) (rw (x .words, le-leb 3 quiet l))) (stays-stop m c d quiet left (accepted stuck) p (rw (none, zero-left)) (rw none))
 
   stays-spent : (quiet : ℕ) (c : Cursor) → Settled s m c → SamePositions c d → quiet < 3 → Stays m d quiet zero (runFrom zero s quiet m c)
   unfolding haltOf
   stays-spent quiet c x p l =
       let some : ltb (quiet + 0) 3 ≡ true = lt-ltb (quiet + 0) 3 (omega arith) in
-      rw (run-halts s quiet m c zero BudgetUsed (rw (x .words, lt-leb 3 quiet l))) (stays-stop m c d quiet zero BudgetUsed p (rw some) (rw some))
+      rw (run-halts s quiet m c zero (accepted budgetUsed) (rw (x .words, lt-leb 3 quiet l))) (stays-stop m c d quiet zero (accepted budgetUsed) p (rw some) (rw some))
 
   stays : (left quiet : ℕ) (c : Cursor) → Settled s m c → SamePositions c d → Stays m d quiet left (runFrom left s quiet m c)
   stays zero quiet c x p = ⊎-elim (stays-stuck zero quiet c x p) (stays-spent quiet c x p) (three-or-fewer quiet)
@@ -130,5 +129,5 @@ stuck-for-good s m c budget again e h =
     let d = runOf s m c budget .cursor in
     let x = run-settles s m c budget e in
     let r = stays s n d again 0 d x (record { at0 = refl; at1 = refl; at2 = refl }) in
-    rw (← call-runs s n d again GoesOn (sym (ready-call s n d again (x .ready) h)) refl)
+    rw (← call-runs s n d again Granted (sym (ready-call s n d again (x .ready) h)) refl)
     (record { each = r .each; count = r .count ∙ rw zero-add; answer = r .answer ∙ rw zero-add; after = r .after; positions = r .positions })

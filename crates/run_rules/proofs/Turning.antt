@@ -8,10 +8,10 @@ use lib.Dec.{ltb, eqb}
 use lib.ListN.{length, getD}
 use borrow.Author.Tests.{ltb-true}
 use Rattle.bits.proofs.Choices.{and-left, and-right}
-use Rattle.machine.specs.declared.refusal.Outcome.{Outcome}
-use Rattle.machine.specs.declared.refusal.Outcome.the-variants.{Idle, Passed, Stalled, Refused}
 use Rattle.machine.specs.Machine.{Machine}
-use Rattle.machine.specs.Formed.{sized, formed, controlFormed, wellFormed}
+use Rattle.machine.specs.Formed.{sized, formed, controlFormed}
+use Rattle.answers.specs.Answers.{Told, accepted, refused}
+use Rattle.answers.specs.Outcomes.{Progress, idle, passed, stalled}
 use Rattle.step_rules.specs.Step.{Step, offerOf}
 use Rattle.step_rules.proofs.Kept.{offer-kept}
 use Rattle.turns.specs.declared.cursor.Cursor.{Cursor}
@@ -23,7 +23,7 @@ use Rattle.run_rules.specs.Turn.{turned, byWord, turnOf}
 use Rattle.run_rules.specs.Ready.{Within, Ready}
 
 module _ (s : Streams) (m : Machine) (c k : Cursor) (o : Offered) (eo : o ≡ nextWord s c) where
-  pub turn-idle : o ≡ NoWord → k ≡ onwardOf c → turned Idle m k ≡ turnOf s m c
+  pub turn-idle : o ≡ NoWord → k ≡ onwardOf c → turned (accepted idle) m k ≡ turnOf s m c
   unfolding turnOf movedOf
   turn-idle e ek = rw (ek, ← eo, e)
 
@@ -73,12 +73,12 @@ past-within s c w e r = go (eqb (c .next) 0) (eqb (c .next) 1) e
     go false false h =
         record { at0 = r .at0; at1 = r .at1; at2 = omega (arith, word-lt (s .s2) (c .at2) w h); thread = following-lt (c .next) }
 
-moved-within : (s : Streams) (c : Cursor) (w : ℕ) (o : Outcome) → nextWord s c ≡ NextWord w → Within s c → Within s (movedOf o c)
+moved-within : (s : Streams) (c : Cursor) (w : ℕ) (o : Told Progress) → nextWord s c ≡ NextWord w → Within s c → Within s (movedOf o c)
 unfolding movedOf
-moved-within s c w Idle e r = onward-within s c r
-moved-within s c w Passed e r = past-within s c w e r
-moved-within s c w (Stalled k) e r = onward-within s c r
-moved-within s c w (Refused x) e r = r
+moved-within s c w (accepted idle) e r = onward-within s c r
+moved-within s c w (accepted passed) e r = past-within s c w e r
+moved-within s c w (accepted (stalled k)) e r = onward-within s c r
+moved-within s c w (refused n vs) e r = r
 
 -- a turn keeps the machine well formed and the cursor within its streams
 pub turn-ready : (s : Streams) (m : Machine) (c : Cursor) → Ready s m c → Ready s (turnOf s m c .after) (turnOf s m c .cursor)

@@ -3,20 +3,19 @@ use Prim.Native.Nat.{ℕ, zero, suc, _+_, _<_}
 use mathlib.Core.Path.{_≡_, refl, ap}
 use mathlib.Core.Bool.{true, false}
 use native.Mathlib.Omega.{arith}
-use Rattle.machine.specs.declared.refusal.Outcome.{Outcome}
-use Rattle.machine.specs.declared.refusal.Outcome.the-variants.{Idle, Passed, Stalled, Refused}
 use Rattle.machine.specs.Machine.{Machine}
-use Rattle.step_rules.specs.Step.{offerOf}
+use Rattle.answers.specs.Answers.{Told, accepted, refused}
+use Rattle.answers.specs.Outcomes.{Progress, idle, passed, stalled}
 use Rattle.offers.specs.Offer.{hasPassed}
+use Rattle.step_rules.specs.Step.{offerOf}
 use Rattle.step_rules.proofs.Unchanged.{offer-unchanged}
 use Rattle.turns.specs.declared.cursor.Cursor.{Cursor}
 use Rattle.turns.specs.declared.streams.Offered.{Offered}
 use Rattle.turns.specs.declared.streams.Offered.the-variants.{NextWord, NoWord}
-use Rattle.turns.specs.declared.ending.Halt.the-variants.{GoesOn}
 use Rattle.turns.specs.Streams.{Streams, nextWord}
 use Rattle.turns.specs.Cursor.{cursor, following, onwardOf, movedOf}
+use Rattle.turns.specs.Ending.{refusedWord, quietAfter, goesOn}
 use Rattle.run_rules.specs.Turn.{byWord, turnOf}
-use Rattle.turns.specs.Ending.{refusedWord, quietAfter}
 use Rattle.run_rules.specs.StuckForGood.{waiting}
 
 -- after three threads it is the first one's turn again
@@ -32,26 +31,26 @@ unfolding onwardOf
 onward-round c h = ap (λ (t : ℕ). cursor (c .at0) (c .at1) (c .at2) t) (threads-round (c .next) h)
 
 -- what a turn with such an outcome does to the cursor and to the count of turns without a passed word
-pub record Waited (o : Outcome) (c : Cursor) (quiet : ℕ) : Type 0 where
+pub record Waited (o : Told Progress) (c : Cursor) (quiet : ℕ) : Type 0 where
   pub moves : movedOf o c ≡ onwardOf c
   pub counts : quietAfter o quiet ≡ quiet + 1
-  pub goes : refusedWord o ≡ GoesOn
+  pub goes : refusedWord o ≡ goesOn
 
-pub waited : (o : Outcome) (c : Cursor) (quiet : ℕ) → waiting o ≡ true → Waited o c quiet
+pub waited : (o : Told Progress) (c : Cursor) (quiet : ℕ) → waiting o ≡ true → Waited o c quiet
 unfolding movedOf quietAfter refusedWord
-waited Idle c quiet h = record { moves = refl; counts = refl; goes = refl }
-waited Passed c quiet h = let z : _≡_ {A = ℕ} 0 1 = cc in absurd (omega arith)
-waited (Stalled k) c quiet h = record { moves = refl; counts = refl; goes = refl }
-waited (Refused r) c quiet h = let z : _≡_ {A = ℕ} 0 1 = cc in absurd (omega arith)
+waited (accepted idle) c quiet h = record { moves = refl; counts = refl; goes = refl }
+waited (accepted passed) c quiet h = let z : _≡_ {A = ℕ} 0 1 = cc in absurd (omega arith)
+waited (accepted (stalled k)) c quiet h = record { moves = refl; counts = refl; goes = refl }
+waited (refused n vs) c quiet h = let z : _≡_ {A = ℕ} 0 1 = cc in absurd (omega arith)
 
 abbrev pub Waits : Streams → Machine → Cursor → Type 0
 Waits s m c = waiting (turnOf s m c .outcome) ≡ true
 
-waiting-quiet : (o : Outcome) → waiting o ≡ true → hasPassed o ≡ false
-waiting-quiet Idle h = refl
-waiting-quiet Passed h = let z : _≡_ {A = ℕ} 0 1 = cc in absurd (omega arith)
-waiting-quiet (Stalled k) h = refl
-waiting-quiet (Refused r) h = refl
+waiting-quiet : (o : Told Progress) → waiting o ≡ true → hasPassed o ≡ false
+waiting-quiet (accepted idle) h = refl
+waiting-quiet (accepted passed) h = let z : _≡_ {A = ℕ} 0 1 = cc in absurd (omega arith)
+waiting-quiet (accepted (stalled k)) h = refl
+waiting-quiet (refused n vs) h = refl
 
 -- a turn without a passed word
 pub turn-keeps : (s : Streams) (m : Machine) (c : Cursor) → hasPassed (turnOf s m c .outcome) ≡ false → turnOf s m c .after ≡ m
@@ -70,5 +69,5 @@ unfolding turnOf
 turn-moves s m c h = go (nextWord s c) h
   where
     go : (o : Offered) → waiting (byWord m c o .outcome) ≡ true → byWord m c o .cursor ≡ onwardOf c
-    go NoWord e = waited Idle c 0 refl .moves
+    go NoWord e = waited (accepted idle) c 0 refl .moves
     go (NextWord w) e = waited (offerOf m (c .next) w .outcome) c 0 e .moves

@@ -1,18 +1,15 @@
 -- The refusals of a call, in the order of the numbers: 4, 10, 5, 6.
 use Prim.Native.Nat.{ℕ}
-use mathlib.Core.Bool.{Bool, cond, _&&_}
+use mathlib.Core.Bool.{Bool, _&&_}
 use lib.Dec.{leb}
 use lib.ListN.{length}
-use Rattle.machine.specs.declared.refusal.Refusal.{Refusal}
-use Rattle.machine.specs.declared.refusal.Refusal.the-variants.{BadLength, Malformed, BadCursor, BadBudget}
 use Rattle.machine.specs.Sizes.{streamMost, budgetMost}
 use Rattle.machine.specs.Machine.{Machine}
 use Rattle.machine.specs.Formed.{sized, formed}
+use Rattle.answers.specs.Answers.{Told, accepted, refused, provided}
 use Rattle.turns.specs.declared.cursor.Cursor.{Cursor}
-use Rattle.turns.specs.declared.ending.Ending.the-variants.{CallRefused}
-use Rattle.turns.specs.declared.ending.Halt.{Halt}
-use Rattle.turns.specs.declared.ending.Halt.the-variants.{Ends, GoesOn}
 use Rattle.turns.specs.Streams.{Streams}
+use Rattle.turns.specs.Ending.{Halted, halts, goesOn}
 
 -- no stream is over 65,536 words
 unfoldable pub streamsSized : Streams → Bool
@@ -24,14 +21,15 @@ placed s c =
     leb (c .at0) (length (s .s0))
     && (leb (c .at1) (length (s .s1)) && (leb (c .at2) (length (s .s2)) && leb (c .next) 2))
 
--- the refusal, unless the test holds; then what comes next
-abbrev pub needed : Bool → Refusal → Halt → Halt
-needed holds r rest = cond holds rest (Ends (CallRefused r))
-
-unfoldable pub callCheck : Streams → Machine → Cursor → ℕ → Halt
+unfoldable pub callCheck : Streams → Machine → Cursor → ℕ → Told (Unit {0})
 callCheck s m c budget =
-    needed (sized m && streamsSized s) BadLength
-    (needed (formed m) Malformed
-    (needed (placed s c) BadCursor
-    (needed (leb budget budgetMost) BadBudget
-    GoesOn)))
+    provided (sized m && streamsSized s) 4
+    (provided (formed m) 10
+    (provided (placed s c) 5
+    (provided (leb budget budgetMost) 6
+    (accepted tt))))
+
+-- a refused call is a run that ends where it stands
+abbrev pub callHalt : Told (Unit {0}) → Halted
+callHalt (accepted x) = goesOn
+callHalt (refused n vs) = halts (refused n vs)

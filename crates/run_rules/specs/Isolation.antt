@@ -5,21 +5,17 @@ use mathlib.Core.Bool.{true}
 use mathlib.Core.List.{Forall₂}
 use lib.ListN.{length}
 use Rattle.machine.specs.Machine.{Machine}
-use Rattle.machine.specs.Numbers.{outcomeNumbers}
 use Rattle.machine.specs.Formed.{wellFormed}
 use Rattle.step_rules.specs.Alike.{Agree}
 use Rattle.turns.specs.declared.cursor.Cursor.{Cursor}
 use Rattle.turns.specs.Streams.{Streams}
 use Rattle.run_rules.specs.Turn.{Turn}
 use Rattle.run_rules.specs.Run.{Run, runOf}
-use Rattle.run_rules.specs.Numbers.{answerNumbers}
 
 -- two turns
 pub record TurnsAlike (t u : Turn) : Type 0 where
-  -- "each idle, passed, stalled or refused alike"
+  -- "each idle, passed, stalled or refused alike with the same numbers"
   pub outcome : t .outcome ≡ u .outcome
-  -- "with the same numbers"
-  pub numbers : outcomeNumbers (t .outcome) ≡ outcomeNumbers (u .outcome)
   -- "the machines still agree after each turn"
   pub agree : Agree (t .after) (u .after)
   -- and so do the positions and the next thread
@@ -33,7 +29,6 @@ pub record RunsAlike (p q : Run) : Type 0 where
   pub each : Forall₂ TurnsAlike (p .turns) (q .turns)
   -- "and both end alike"
   pub answer : p .answer ≡ q .answer
-  pub numbers : answerNumbers (p .answer) ≡ answerNumbers (q .answer)
   pub agree : Agree (p .after) (q .after)
   pub cursor : p .cursor ≡ q .cursor
 

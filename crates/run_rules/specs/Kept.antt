@@ -2,12 +2,12 @@
 use Prim.Native.Nat.{ℕ}
 use mathlib.Core.Path.{_≡_}
 use mathlib.Core.Bool.{true, false}
-use Rattle.machine.specs.declared.refusal.Refusal.{Refusal}
+use mathlib.Core.List.{List}
 use Rattle.machine.specs.Machine.{Machine}
 use Rattle.machine.specs.Formed.{wellFormed}
+use Rattle.answers.specs.Answers.{refused}
 use Rattle.offers.specs.Offer.{hasPassed}
 use Rattle.turns.specs.declared.cursor.Cursor.{Cursor}
-use Rattle.turns.specs.declared.ending.Ending.the-variants.{CallRefused}
 use Rattle.turns.specs.Streams.{Streams}
 use Rattle.run_rules.specs.Turn.{turnOf}
 use Rattle.run_rules.specs.Run.{stop, runOf}
@@ -21,7 +21,7 @@ pub record QuietTurn (s : Streams) (m : Machine) (c : Cursor) : Type 0 where
 pub record RunKeeps : Type 0 where
   pub quiet : (s : Streams) (m : Machine) (c : Cursor) → hasPassed (turnOf s m c .outcome) ≡ false → QuietTurn s m c
   -- a refused call takes no turn and changes nothing
-  pub refused : (s : Streams) (m : Machine) (c : Cursor) (budget : ℕ) (r : Refusal) →
-      runOf s m c budget .answer ≡ CallRefused r → runOf s m c budget ≡ stop (CallRefused r) m c
+  pub refusedCall : (s : Streams) (m : Machine) (c : Cursor) (budget n : ℕ) (vs : List ℕ) →
+      runOf s m c budget .answer ≡ refused n vs → runOf s m c budget ≡ stop (refused n vs) m c
   -- a well-formed machine is well formed after every run, refused or not
   pub formed : (s : Streams) (m : Machine) (c : Cursor) (budget : ℕ) → wellFormed m ≡ true → wellFormed (runOf s m c budget .after) ≡ true

@@ -2,7 +2,6 @@ pub mod Turn
 pub mod Checks
 pub mod Run
 pub mod Ready
-pub mod Numbers
 pub mod Isolation
 pub mod StuckForGood
 pub mod Kept

@@ -3,25 +3,23 @@ use Prim.Native.Nat.{ℕ, zero, suc}
 use mathlib.Core.List.{List, [], _∷_}
 use lib.ListN.{length}
 use Rattle.machine.specs.Machine.{Machine}
+use Rattle.answers.specs.Answers.{Told, accepted}
 use Rattle.turns.specs.declared.cursor.Cursor.{Cursor}
-use Rattle.turns.specs.declared.ending.Ending.{Ending}
-use Rattle.turns.specs.declared.ending.Ending.the-variants.{BudgetUsed}
-use Rattle.turns.specs.declared.ending.Halt.{Halt}
-use Rattle.turns.specs.declared.ending.Halt.the-variants.{Ends, GoesOn}
 use Rattle.turns.specs.Streams.{Streams}
+use Rattle.turns.specs.Ending.{haltOf, refusedWord, quietAfter, RunEnd, Halted, halts, goesOn, budgetUsed}
 use Rattle.run_rules.specs.Turn.{Turn, turnOf}
-use Rattle.turns.specs.Ending.{haltOf, refusedWord, quietAfter}
-use Rattle.run_rules.specs.Checks.{callCheck}
+use Rattle.run_rules.specs.Checks.{callCheck, callHalt}
 
--- each turn in order, with its outcome and the machine and cursor after it; the answer; the machine and cursor at the end
+-- each turn in order, with its outcome and the machine and cursor after it; how it ended, or the number of a refused call; the machine and
+-- cursor at the end
 pub record Run : Type 0 where
   pub turns : List Turn
-  pub answer : Ending
+  pub answer : Told RunEnd
   pub after : Machine
   pub cursor : Cursor
 
 -- a run that ends where it stands
-abbrev pub stop : Ending → Machine → Cursor → Run
+abbrev pub stop : Told RunEnd → Machine → Cursor → Run
 stop a m c = record { turns = []; answer = a; after = m; cursor = c }
 
 -- a turn, and the run that follows it
@@ -29,14 +27,14 @@ abbrev pub before : Turn → Run → Run
 before t r = record { turns = t ∷ r .turns; answer = r .answer; after = r .after; cursor = r .cursor }
 
 -- the run, unless something ends it where it stands
-abbrev pub unless : Halt → Machine → Cursor → Run → Run
-unless (Ends a) m c r = stop a m c
-unless GoesOn m c r = r
+abbrev pub unless : Halted → Machine → Cursor → Run → Run
+unless (halts a) m c r = stop a m c
+unless goesOn m c r = r
 
 -- a run with `left` turns of its budget left, after `quiet` turns in a row without a passed word: each turn gets the machine
 -- and cursor that the last one left
 unfoldable pub runFrom : ℕ → Streams → ℕ → Machine → Cursor → Run
-runFrom zero s quiet m c = unless (haltOf s c quiet zero) m c (stop BudgetUsed m c)
+runFrom zero s quiet m c = unless (haltOf s c quiet zero) m c (stop (accepted budgetUsed) m c)
 runFrom (suc left) s quiet m c =
     let t = turnOf s m c in
     let rest = runFrom left s (quietAfter (t .outcome) quiet) (t .after) (t .cursor) in
@@ -47,16 +45,16 @@ runFrom (suc left) s quiet m c =
 unfoldable pub runOf : Streams → Machine → Cursor → ℕ → Run
 runOf s m c budget =
     let r = runFrom budget s 0 m c in
-    unless (callCheck s m c budget) m c r
+    unless (callHalt (callCheck s m c budget)) m c r
 
 -- what comes back of a run: its answer, the number of its turns, and the machine and cursor at its end
 pub record Summary : Type 0 where
-  pub answer : Ending
+  pub answer : Told RunEnd
   pub turns : ℕ
   pub after : Machine
   pub cursor : Cursor
 
-abbrev pub summary : Ending → ℕ → Machine → Cursor → Summary
+abbrev pub summary : Told RunEnd → ℕ → Machine → Cursor → Summary
 summary a n m c = record { answer = a; turns = n; after = m; cursor = c }
 
 abbrev pub summaryOf : Run → Summary

@@ -6,21 +6,21 @@ use mathlib.Core.List.{List·Memᴰ}
 use lib.Dec.{ltb}
 use lib.ListN.{length}
 use Rattle.machine.specs.Sizes.{budgetMost}
-use Rattle.machine.specs.declared.refusal.Outcome.{Outcome}
-use Rattle.machine.specs.declared.refusal.Outcome.the-variants.{Idle, Passed, Stalled, Refused}
 use Rattle.machine.specs.Machine.{Machine}
+use Rattle.answers.specs.Answers.{Told, accepted, refused}
+use Rattle.answers.specs.Outcomes.{Progress, idle, passed, stalled}
 use Rattle.turns.specs.declared.cursor.Cursor.{Cursor}
-use Rattle.turns.specs.declared.ending.Ending.the-variants.{Stuck, BudgetUsed}
 use Rattle.turns.specs.Streams.{Streams}
+use Rattle.turns.specs.Ending.{stuck, budgetUsed}
 use Rattle.run_rules.specs.Turn.{Turn}
 use Rattle.run_rules.specs.Run.{Run, runOf}
 
 -- idle or stalled
-abbrev pub waiting : Outcome → Bool
-waiting Idle = true
-waiting Passed = false
-waiting (Stalled cause) = true
-waiting (Refused r) = false
+abbrev pub waiting : Told Progress → Bool
+waiting (accepted idle) = true
+waiting (accepted passed) = false
+waiting (accepted (stalled n)) = true
+waiting (refused n vs) = false
 
 pub record SamePositions (c d : Cursor) : Type 0 where
   pub at0 : c .at0 ≡ d .at0
@@ -37,13 +37,13 @@ pub record StillTurn (m : Machine) (c : Cursor) (t : Turn) : Type 0 where
 pub record StaysStuck (m : Machine) (c : Cursor) (budget : ℕ) (r : Run) : Type 0 where
   pub each : (t : Turn) → List·Memᴰ t (r .turns) → StillTurn m c t
   pub count : length (r .turns) ≡ cond (ltb budget 3) budget 3
-  pub answer : r .answer ≡ cond (ltb budget 3) BudgetUsed Stuck
+  pub answer : r .answer ≡ cond (ltb budget 3) (accepted budgetUsed) (accepted stuck)
   pub after : r .after ≡ m
   pub positions : SamePositions (r .cursor) c
 
 abbrev pub StuckForGood : Type 0
 StuckForGood =
     (s : Streams) (m : Machine) (c : Cursor) (budget again : ℕ) →
-    runOf s m c budget .answer ≡ Stuck → again ≤ budgetMost →
+    runOf s m c budget .answer ≡ accepted stuck → again ≤ budgetMost →
     StaysStuck (runOf s m c budget .after) (runOf s m c budget .cursor) again
     (runOf s (runOf s m c budget .after) (runOf s m c budget .cursor) again)

@@ -1,7 +1,7 @@
 -- One turn: its outcome, and the machine and the cursor that it leaves.
-use Rattle.machine.specs.declared.refusal.Outcome.{Outcome}
-use Rattle.machine.specs.declared.refusal.Outcome.the-variants.{Idle}
 use Rattle.machine.specs.Machine.{Machine}
+use Rattle.answers.specs.Answers.{Told, accepted}
+use Rattle.answers.specs.Outcomes.{Progress, idle}
 use Rattle.step_rules.specs.Step.{Step, offerOf}
 use Rattle.turns.specs.declared.cursor.Cursor.{Cursor}
 use Rattle.turns.specs.declared.streams.Offered.{Offered}
@@ -10,11 +10,11 @@ use Rattle.turns.specs.Streams.{Streams, nextWord}
 use Rattle.turns.specs.Cursor.{movedOf}
 
 pub record Turn : Type 0 where
-  pub outcome : Outcome
+  pub outcome : Told Progress
   pub after : Machine
   pub cursor : Cursor
 
-abbrev pub turned : Outcome → Machine → Cursor → Turn
+abbrev pub turned : Told Progress → Machine → Cursor → Turn
 turned o m c = record { outcome = o; after = m; cursor = c }
 
 -- a turn that offers a word
@@ -23,7 +23,7 @@ offeredTurn x c = turned (x .outcome) (x .after) (movedOf (x .outcome) c)
 
 abbrev pub byWord : Machine → Cursor → Offered → Turn
 byWord m c (NextWord w) = offeredTurn (offerOf m (c .next) w) c
-byWord m c NoWord = turned Idle m (movedOf Idle c)
+byWord m c NoWord = turned (accepted idle) m (movedOf (accepted idle) c)
 
 -- offers the next thread's word, or does nothing if its stream is used up
 unfoldable pub turnOf : Streams → Machine → Cursor → Turn

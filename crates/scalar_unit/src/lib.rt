@@ -4,6 +4,7 @@ mod registers;
 ghost use Prim.Native.Nat.{_<_};
 ghost use mathlib.Core.Path.{_≡_};
 ghost use lib.ListN.{length};
+ghost use Rattle.answers.specs.Outcomes.{toldOutcome};
 ghost use Rattle.word_rules.specs.ScalarWords.{setDmaRegOf, addDmaRegOf, mulDmaRegOf};
 ghost use Rattle.effects.specs.Offered.{GprsOffered};
 use crate::registers::write_half;
@@ -22,7 +23,7 @@ use scalar_words::value;
 // SETDMAREG. Internal, as all below: the store has its size, and the thread is in range.
 pub fn set_dma_reg(gprs: &mut [u32], t: usize, word: u32, stalls: bool) -> Outcome
     requires { ⌜ (length (now gprs) ≡ 192) × (t < 3) ⌝ }
-    ensures { λ r. ⌜ GprsOffered stalls t (setDmaRegOf word) (now (gprs .entry)) r (now (gprs .exit)) ⌝ }
+    ensures { λ r. ⌜ GprsOffered stalls t (setDmaRegOf word) (now (gprs .entry)) (toldOutcome r) (now (gprs .exit)) ⌝ }
 {
     let bad = signals(word);
     if stopped(bad, false, stalls) {
@@ -35,7 +36,7 @@ pub fn set_dma_reg(gprs: &mut [u32], t: usize, word: u32, stalls: bool) -> Outco
 // ADDDMAREG.
 pub fn add_dma_reg(gprs: &mut [u32], t: usize, word: u32, stalls: bool) -> Outcome
     requires { ⌜ (length (now gprs) ≡ 192) × (t < 3) ⌝ }
-    ensures { λ r. ⌜ GprsOffered stalls t (addDmaRegOf word) (now (gprs .entry)) r (now (gprs .exit)) ⌝ }
+    ensures { λ r. ⌜ GprsOffered stalls t (addDmaRegOf word) (now (gprs .entry)) (toldOutcome r) (now (gprs .exit)) ⌝ }
 {
     if stalls {
         return verdict(false, false, stalls);
@@ -47,7 +48,7 @@ pub fn add_dma_reg(gprs: &mut [u32], t: usize, word: u32, stalls: bool) -> Outco
 // MULDMAREG.
 pub fn mul_dma_reg(gprs: &mut [u32], t: usize, word: u32, stalls: bool) -> Outcome
     requires { ⌜ (length (now gprs) ≡ 192) × (t < 3) ⌝ }
-    ensures { λ r. ⌜ GprsOffered stalls t (mulDmaRegOf word) (now (gprs .entry)) r (now (gprs .exit)) ⌝ }
+    ensures { λ r. ⌜ GprsOffered stalls t (mulDmaRegOf word) (now (gprs .entry)) (toldOutcome r) (now (gprs .exit)) ⌝ }
 {
     if stalls {
         return verdict(false, false, stalls);

@@ -2,6 +2,7 @@
 ghost use mathlib.Core.Path.{_≡_};
 ghost use Rattle.bits.specs.Field.{field, flag};
 ghost use Rattle.machine.specs.Units.{halfRegister};
+ghost use Rattle.word_rules.specs.Refused.{toldDecoded};
 ghost use Rattle.word_rules.specs.ScalarWords.{resultOf, operandAOf, operandBOf};
 ghost use Rattle.word_rules.specs.Units.{badWord, scalarRows};
 use machine::refusal::Refusal;
@@ -62,7 +63,7 @@ pub fn operand_b(word: u32) -> Operand
 
 // What a word with an opcode of the scalar unit says; any other opcode is 2.
 pub fn decode_scalar(op: u32, word: u32) -> Decoded
-    ensures { λ r. ⌜ r ≡ scalarRows op word badWord ⌝ }
+    ensures { λ r. ⌜ toldDecoded r ≡ scalarRows op word badWord ⌝ }
 {
     let result = result(word);
     let a = operand_a(word);

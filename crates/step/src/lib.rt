@@ -3,9 +3,11 @@ ghost use mathlib.Core.Path.{_≡_};
 ghost use mathlib.Core.Bool.{true};
 ghost use Prim.Native.Nat.{_<_};
 ghost use Rattle.machine.specs.Machine.{machine, stores};
-ghost use Rattle.machine.specs.Numbers.{outcomeNumbers};
 ghost use Rattle.machine.specs.Formed.{sized, controlFormed};
+ghost use Rattle.answers.specs.Answers.{told};
+ghost use Rattle.answers.specs.Outcomes.{toldOutcome};
 ghost use Rattle.step_rules.specs.Step.{stepped, offerOf, checkOf, stepOf};
+use answers::Access;
 use banks::owners::matrix_owns;
 use control::Stepped;
 use control::finished;
@@ -14,7 +16,6 @@ use gate::judge;
 use machine::control::Control;
 use machine::refusal::Outcome;
 use machine::refusal::Refusal;
-use step_rules::CallCheck;
 use store_words::store_word;
 use word_rules::unit::on_control;
 
@@ -33,7 +34,7 @@ pub fn offer(
     word: u32,
 ) -> Stepped
     requires { ⌜ (sized (machine control (now settings) (stores (now gprs) (now config) (now dest) (now marks) (now «src_a») (now «src_b»))) ≡ true) × (controlFormed control ≡ true) × (t < 3) ⌝ }
-    ensures { λ r. ⌜ stepped (r .outcome) (machine (r .control) (now (settings .exit)) (stores (now (gprs .exit)) (now (config .exit)) (now (dest .entry)) (now (marks .exit)) (now («src_a» .exit)) (now («src_b» .exit)))) ≡ offerOf (machine control (now (settings .entry)) (stores (now (gprs .entry)) (now (config .entry)) (now (dest .entry)) (now (marks .entry)) (now («src_a» .entry)) (now («src_b» .entry)))) t word ⌝ }
+    ensures { λ r. ⌜ stepped (toldOutcome (r .outcome)) (machine (r .control) (now (settings .exit)) (stores (now (gprs .exit)) (now (config .exit)) (now (dest .entry)) (now (marks .exit)) (now («src_a» .exit)) (now («src_b» .exit)))) ≡ offerOf (machine control (now (settings .entry)) (stores (now (gprs .entry)) (now (config .entry)) (now (dest .entry)) (now (marks .entry)) (now («src_a» .entry)) (now («src_b» .entry)))) t word ⌝ }
 {
     let j = judge(control, t);
     let blocks = j.blocks;
@@ -75,21 +76,21 @@ fn check_call(
     src_a: &[u32],
     src_b: &[u32],
     thread: u32,
-) -> CallCheck
-    ensures { λ r. ⌜ r ≡ checkOf (machine control (now (settings .entry)) (stores (now (gprs .entry)) (now (config .entry)) (now (dest .entry)) (now (marks .entry)) (now («src_a» .entry)) (now («src_b» .entry)))) thread ⌝ }
+) -> Access
+    ensures { λ r. ⌜ told r ≡ checkOf (machine control (now (settings .entry)) (stores (now (gprs .entry)) (now (config .entry)) (now (dest .entry)) (now (marks .entry)) (now («src_a» .entry)) (now («src_b» .entry)))) thread ⌝ }
 {
     let sized = formed::machine_sized(control, settings, gprs, config, dest, marks, src_a, src_b);
     let ranged = formed::machine_formed(control, settings, gprs, config, dest, marks, src_a, src_b);
     if !sized {
-        return CallCheck::Refuses(Refusal::BadLength);
+        return Access::Denied(Refusal::BadLength);
     }
     if !ranged {
-        return CallCheck::Refuses(Refusal::Malformed);
+        return Access::Denied(Refusal::Malformed);
     }
     if thread < 3 {
-        return CallCheck::Fine;
+        return Access::Granted;
     }
-    CallCheck::Refuses(Refusal::BadThread)
+    Access::Denied(Refusal::BadThread)
 }
 
 // One word of a thread on a machine: refusals 4, 10, 1, then the word's 2 and 3, then the stalls, else passed.
@@ -105,8 +106,7 @@ pub fn step(
     thread: u32,
     word: u32,
 ) -> Stepped
-    ensures { λ r. ⌜ stepped (r .outcome) (machine (r .control) (now (settings .exit)) (stores (now (gprs .exit)) (now (config .exit)) (now (dest .entry)) (now (marks .exit)) (now («src_a» .exit)) (now («src_b» .exit)))) ≡ stepOf (machine control (now (settings .entry)) (stores (now (gprs .entry)) (now (config .entry)) (now (dest .entry)) (now (marks .entry)) (now («src_a» .entry)) (now («src_b» .entry)))) thread word ⌝ }
-    ensures numbers { λ r. ⌜ outcomeNumbers (r .outcome) ≡ outcomeNumbers (stepOf (machine control (now (settings .entry)) (stores (now (gprs .entry)) (now (config .entry)) (now (dest .entry)) (now (marks .entry)) (now («src_a» .entry)) (now («src_b» .entry)))) thread word .outcome) ⌝ }
+    ensures { λ r. ⌜ stepped (toldOutcome (r .outcome)) (machine (r .control) (now (settings .exit)) (stores (now (gprs .exit)) (now (config .exit)) (now (dest .entry)) (now (marks .exit)) (now («src_a» .exit)) (now («src_b» .exit)))) ≡ stepOf (machine control (now (settings .entry)) (stores (now (gprs .entry)) (now (config .entry)) (now (dest .entry)) (now (marks .entry)) (now («src_a» .entry)) (now («src_b» .entry)))) thread word ⌝ }
 {
     let k = check_call(
         control,
@@ -120,11 +120,11 @@ pub fn step(
         thread,
     );
     match k {
-        CallCheck::Refuses(r) => Stepped {
+        Access::Denied(r) => Stepped {
             outcome: Outcome::Refused(r),
             control,
         },
-        CallCheck::Fine => {
+        Access::Granted => {
             let t = thread as usize;
             offer(
                 control,

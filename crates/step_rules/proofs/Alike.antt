@@ -4,15 +4,14 @@ use mathlib.Core.Path.{refl, ap, subst}
 use mathlib.Core.List.{List}
 use Rattle.machine.specs.declared.control.Control.{Control}
 use Rattle.machine.specs.Machine.{Machine}
+use Rattle.answers.specs.Answers.{Told, accepted, refused}
 use Rattle.word_rules.specs.declared.instruction.Instruction.{Instruction}
-use Rattle.word_rules.specs.declared.instruction.Decoded.{Decoded}
-use Rattle.word_rules.specs.declared.instruction.Decoded.the-variants.{Decodes, Rejects}
 use Rattle.word_rules.specs.Decode.{decodeOf}
 use Rattle.offers.specs.Offer.{Gate, Open, Closed}
 use Rattle.gate.specs.Gate.{gateOf}
 use Rattle.control.specs.After.{controlAfter}
 use Rattle.effects.specs.After.{settingsAfter}
-use Rattle.step_rules.specs.Step.{Step, machineAfter, byGate, gatedOf, byDecoded, offerOf}
+use Rattle.step_rules.specs.Step.{machineAfter, byGate, gatedOf, byDecoded, offerOf}
 use Rattle.step_rules.specs.Alike.{Agree, StepsAlike, OffersAlike}
 
 gates-alike : (m n : Machine) (t : ℕ) (i : Instruction) (g : Gate) → Agree m n → StepsAlike (byGate m t i g) (byGate n t i g)
@@ -34,9 +33,9 @@ gated-alike m n t i a =
     (ap (λ (c : Control). gateOf c t i) (a .control))
     (gates-alike m n t i (gateOf (m .control) t i) a)
 
-decoded-alike : (m n : Machine) (t : ℕ) (d : Decoded) → Agree m n → StepsAlike (byDecoded m t d) (byDecoded n t d)
-decoded-alike m n t (Decodes i) a = gated-alike m n t i a
-decoded-alike m n t (Rejects r) a = record { outcome = refl; agree = a }
+decoded-alike : (m n : Machine) (t : ℕ) (d : Told Instruction) → Agree m n → StepsAlike (byDecoded m t d) (byDecoded n t d)
+decoded-alike m n t (accepted i) a = gated-alike m n t i a
+decoded-alike m n t (refused number vs) a = record { outcome = refl; agree = a }
 
 pub offers-alike : OffersAlike
 unfolding offerOf

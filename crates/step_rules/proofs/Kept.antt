@@ -9,9 +9,8 @@ use Rattle.bits.proofs.Choices.{and-left, and-right}
 use Rattle.machine.specs.Sizes.{settingCount, halfMost}
 use Rattle.machine.specs.Machine.{Machine}
 use Rattle.machine.specs.Formed.{sized, formed, wellFormed, controlFormed, storesSized, storesFormed}
+use Rattle.answers.specs.Answers.{Told, accepted, refused}
 use Rattle.word_rules.specs.declared.instruction.Instruction.{Instruction}
-use Rattle.word_rules.specs.declared.instruction.Decoded.{Decoded}
-use Rattle.word_rules.specs.declared.instruction.Decoded.the-variants.{Decodes, Rejects}
 use Rattle.word_rules.specs.Decode.{decodeOf}
 use Rattle.word_rules.specs.InRange.{InRange, DecodedInRange}
 use Rattle.word_rules.proofs.InRange.{decode-in-range}
@@ -21,11 +20,9 @@ use Rattle.gate.specs.Gate.{gateOf}
 use Rattle.control.proofs.Keeps.{control-after-formed}
 use Rattle.effects.specs.After.{settingsAfter}
 use Rattle.effects.proofs.Keeps.{settings-long, settings-range, stores-sized, stores-formed}
-use Rattle.step_rules.specs.declared.CallCheck.{CallCheck}
-use Rattle.step_rules.specs.declared.CallCheck.the-variants.{Fine, Refuses}
 use Rattle.step_rules.specs.Step.{machineAfter, byGate, gatedOf, byDecoded, offerOf, checkOf, byCheck, stepOf}
 use Rattle.step_rules.specs.Kept.{KeepsFormed}
-use Rattle.step_rules.proofs.Ways.{fine-shows}
+use Rattle.step_rules.proofs.Ways.{accepted-shows}
 
 passed-kept : (m : Machine) (t : ℕ) (i : Instruction) → t < 3 → InRange i → wellFormed m ≡ true → wellFormed (machineAfter m t i) ≡ true
 unfolding machineAfter
@@ -49,18 +46,18 @@ gate-kept : (m : Machine) (t : ℕ) (i : Instruction) (g : Gate) → t < 3 → I
 gate-kept m t i Open h r e = passed-kept m t i h r e
 gate-kept m t i (Closed k) h r e = e
 
-decoded-kept : (m : Machine) (t : ℕ) (d : Decoded) → t < 3 → DecodedInRange d → wellFormed m ≡ true → wellFormed (byDecoded m t d .after) ≡ true
+decoded-kept : (m : Machine) (t : ℕ) (d : Told Instruction) → t < 3 → DecodedInRange d → wellFormed m ≡ true → wellFormed (byDecoded m t d .after) ≡ true
 unfolding gatedOf
-decoded-kept m t (Decodes i) h r e = gate-kept m t i (gateOf (m .control) t i) h r e
-decoded-kept m t (Rejects x) h r e = e
+decoded-kept m t (accepted i) h r e = gate-kept m t i (gateOf (m .control) t i) h r e
+decoded-kept m t (refused n vs) h r e = e
 
 pub offer-kept : (m : Machine) (t w : ℕ) → t < 3 → wellFormed m ≡ true → wellFormed (offerOf m t w .after) ≡ true
 unfolding offerOf
 offer-kept m t w h e = decoded-kept m t (decodeOf w) h (decode-in-range w) e
 
-check-kept : (m : Machine) (t w : ℕ) (k : CallCheck) → checkOf m t ≡ k → wellFormed m ≡ true → wellFormed (byCheck m t w k .after) ≡ true
-check-kept m t w Fine x e = offer-kept m t w (fine-shows m t x .thread) e
-check-kept m t w (Refuses r) x e = e
+check-kept : (m : Machine) (t w : ℕ) (k : Told (Unit {0})) → checkOf m t ≡ k → wellFormed m ≡ true → wellFormed (byCheck m t w k .after) ≡ true
+check-kept m t w (accepted u) x e = offer-kept m t w (accepted-shows m t u x .thread) e
+check-kept m t w (refused n vs) x e = e
 
 pub keeps-formed : KeepsFormed
 unfolding stepOf

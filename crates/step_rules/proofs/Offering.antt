@@ -5,14 +5,13 @@ use mathlib.Core.Bool.{Bool, true, false}
 use mathlib.Core.List.{List}
 use Rattle.bits.specs.Field.{field}
 use Rattle.machine.specs.declared.control.Control.{Control}
-use Rattle.machine.specs.declared.refusal.Outcome.{Outcome}
 use Rattle.machine.specs.Machine.{Machine, Stores, machine}
 use Rattle.machine.specs.Control.{waitOf}
+use Rattle.answers.specs.Answers.{Told, accepted, refused}
+use Rattle.answers.specs.Outcomes.{Progress, toldOutcome}
 use Rattle.word_rules.specs.declared.instruction.MatrixWord.the-variants.{TrnspSrcB, MovB2A, ZeroAcc, ClearDValid, SetDValid}
 use Rattle.word_rules.specs.declared.instruction.Instruction.{Instruction}
 use Rattle.word_rules.specs.declared.instruction.Instruction.the-variants.{Nop, Scalar, Sync, Config, Matrix}
-use Rattle.word_rules.specs.declared.instruction.Decoded.{Decoded}
-use Rattle.word_rules.specs.declared.instruction.Decoded.the-variants.{Decodes, Rejects}
 use Rattle.word_rules.specs.Units.{onControl, controlRows, storeRows}
 use Rattle.word_rules.proofs.Units.{decode-on-control, decode-on-stores}
 use Rattle.word_rules.proofs.Only.{Only, OnControl, OnStores, control-only, store-only}
@@ -23,7 +22,7 @@ use Rattle.gate.specs.Gate.{wordGate, gateOf}
 use Rattle.gate.proofs.Decides.{named-now}
 use Rattle.control.specs.declared.Stepped.{Stepped}
 use Rattle.control.specs.After.{wordAfter, controlAfter}
-use Rattle.control.specs.Offered.{droppedIf, droppedOn, controlOffer}
+use Rattle.control.specs.Offered.{ControlStep, came, toldStepped, droppedIf, droppedOn, controlOffer}
 use Rattle.control.proofs.Dropping.{dropped-after}
 use Rattle.effects.specs.Gprs.{gprsAfter}
 use Rattle.effects.specs.Config.{configAfter}
@@ -32,7 +31,7 @@ use Rattle.effects.specs.Sources.{srcAAfter, srcBAfter}
 use Rattle.effects.specs.After.{settingsAfter, storesAfter}
 use Rattle.effects.specs.Offered.{StoresOffered}
 use Rattle.step_rules.proofs.Ways.{offered-as}
-use Rattle.step_rules.specs.Step.{Step, stepped, machineAfter, byGate, gatedOf, byDecoded, offerOf}
+use Rattle.step_rules.specs.Step.{stepped, machineAfter, byGate, gatedOf, byDecoded, offerOf}
 
 settings-left : (i : Instruction) (t : ℕ) (s : List ℕ) → OnControl i → settingsAfter i t s ≡ s
 unfolding settingsAfter
@@ -96,13 +95,14 @@ module _ (c : Control) (s : List ℕ) (k : Stores) (t blocks : ℕ) (drops : Boo
   control-at i Open y = rw (dropped-after c t drops i ed, settings-left i t s y, stores-left i t (matrixBank c 0) (matrixBank c 1) s k y)
   control-at i (Closed cause) y = refl
 
-  control-offered : (x : Decoded) → Only OnControl x → (r : Stepped) → r ≡ controlOffer (namedBy blocks) drops c t x →
-      stepped (r .outcome) (machine (r .control) s k) ≡ byDecoded whole t x
+  control-offered : (x : Told Instruction) → Only OnControl x → (r : Stepped) → toldStepped r ≡ controlOffer (namedBy blocks) drops c t x →
+      stepped (toldOutcome (r .outcome)) (machine (r .control) s k) ≡ byDecoded whole t x
   unfolding controlOffer
-  control-offered (Rejects n) y r e = rw e
-  control-offered (Decodes i) y r e =
+  control-offered (refused n vs) y r e = ap (λ (z : ControlStep). stepped (z .outcome) (machine (z .control) s k)) e
+  control-offered (accepted i) y r e =
       let g = waitFirst (namedBy blocks i) (wordGate c t i) in
-      rw e (control-at i g y ∙ at-gate whole t i g (gate-by c t i blocks eb))
+      ap (λ (z : ControlStep). stepped (z .outcome) (machine (z .control) s k)) e
+      ∙ (control-at i g y ∙ at-gate whole t i g (gate-by c t i blocks eb))
 
   -- on the stores, in the same way
   stores-at : (i : Instruction) (g : Gate) → OnStores i →
@@ -114,26 +114,28 @@ module _ (c : Control) (s : List ℕ) (k : Stores) (t blocks : ℕ) (drops : Boo
       rw e
   stores-at i (Closed cause) y = refl
 
-  stores-offered : (owned : Bool) → owned ≡ matrixOwns c 1 → (x : Decoded) → Only OnStores x → (o : Outcome) (s' : List ℕ) (k' : Stores) →
+  stores-offered : (owned : Bool) → owned ≡ matrixOwns c 1 → (x : Told Instruction) → Only OnStores x → (o : Told Progress) (s' : List ℕ) (k' : Stores) →
       StoresOffered blocks owned t (matrixBank c 0) (matrixBank c 1) x s k o s' k' →
       stepped o (machine (droppedOn o c t drops) s' k') ≡ byDecoded whole t x
-  stores-offered owned w (Rejects r) y o s' k' p = rw (p .outcome, p .settings, p .kept)
-  stores-offered owned w (Decodes i) y o s' k' p =
+  stores-offered owned w (refused n vs) y o s' k' p = rw (p .outcome, p .settings, p .kept)
+  stores-offered owned w (accepted i) y o s' k' p =
       let g = storeGate blocks owned i in
       let e : gateOf c t i ≡ g = gate-by c t i blocks eb ∙ ap (λ (z : Gate). waitFirst (namedBy blocks i) z) (owner-gate i c t y ∙ ap (λ (b : Bool). ownerGate b i) (sym w)) in
       rw (p .outcome, p .settings, p .kept) (stores-at i g y ∙ at-gate whole t i g e)
 
   -- a word offered, by whether it works on the control part
   module _ (w : ℕ) (b : Bool) (eo : b ≡ onControl (field 24 8 w)) where
-    pub offer-on-control : b ≡ true → (r : Stepped) → r ≡ controlOffer (namedBy blocks) drops c t (controlRows (field 24 8 w) w) →
-        stepped (r .outcome) (machine (r .control) s k) ≡ offerOf whole t w
+    pub offer-on-control : b ≡ true → (r : Stepped) → toldStepped r ≡ controlOffer (namedBy blocks) drops c t (controlRows (field 24 8 w) w) →
+        stepped (toldOutcome (r .outcome)) (machine (r .control) s k) ≡ offerOf whole t w
     offer-on-control h r e =
         control-offered (controlRows (field 24 8 w) w) (control-only (field 24 8 w) w) r e
         ∙ offered-as whole t w (controlRows (field 24 8 w) w) (decode-on-control w b eo h)
 
-    pub offer-on-stores : b ≡ false → (owned : Bool) → owned ≡ matrixOwns c 1 → (o : Outcome) (s' : List ℕ) (k' : Stores) →
+    pub offer-on-stores : b ≡ false → (owned : Bool) → owned ≡ matrixOwns c 1 → (o : Told Progress) (s' : List ℕ) (k' : Stores) →
         StoresOffered blocks owned t (matrixBank c 0) (matrixBank c 1) (storeRows (field 24 8 w) w) s k o s' k' →
-        stepped o (machine (droppedOn o c t drops) s' k') ≡ offerOf whole t w
-    offer-on-stores h owned q o s' k' p =
-        stores-offered owned q (storeRows (field 24 8 w) w) (store-only (field 24 8 w) w) o s' k' p
-        ∙ offered-as whole t w (storeRows (field 24 8 w) w) (decode-on-stores w b eo h)
+        (r : Stepped) → toldStepped r ≡ came o (droppedOn o c t drops) →
+        stepped (toldOutcome (r .outcome)) (machine (r .control) s' k') ≡ offerOf whole t w
+    offer-on-stores h owned q o s' k' p r e =
+        ap (λ (z : ControlStep). stepped (z .outcome) (machine (z .control) s' k')) e
+        ∙ (stores-offered owned q (storeRows (field 24 8 w) w) (store-only (field 24 8 w) w) o s' k' p
+        ∙ offered-as whole t w (storeRows (field 24 8 w) w) (decode-on-stores w b eo h))

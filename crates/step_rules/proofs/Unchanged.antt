@@ -4,16 +4,13 @@ use mathlib.Core.Path.{_≡_, refl}
 use mathlib.Core.Bool.{false}
 use native.Mathlib.Omega.{arith}
 use Rattle.machine.specs.Machine.{Machine}
+use Rattle.answers.specs.Answers.{Told, accepted, refused}
 use Rattle.word_rules.specs.declared.instruction.Instruction.{Instruction}
-use Rattle.word_rules.specs.declared.instruction.Decoded.{Decoded}
-use Rattle.word_rules.specs.declared.instruction.Decoded.the-variants.{Decodes, Rejects}
 use Rattle.word_rules.specs.Decode.{decodeOf}
 use Rattle.offers.specs.Offer.{Gate, Open, Closed}
-use Rattle.gate.specs.Gate.{gateOf}
-use Rattle.step_rules.specs.declared.CallCheck.{CallCheck}
-use Rattle.step_rules.specs.declared.CallCheck.the-variants.{Fine, Refuses}
-use Rattle.step_rules.specs.Step.{byGate, gatedOf, byDecoded, offerOf, checkOf, byCheck, stepOf}
 use Rattle.offers.specs.Offer.{hasPassed}
+use Rattle.gate.specs.Gate.{gateOf}
+use Rattle.step_rules.specs.Step.{byGate, gatedOf, byDecoded, offerOf, checkOf, byCheck, stepOf}
 use Rattle.step_rules.specs.Unchanged.{Unchanged}
 
 module _ (m : Machine) (t : ℕ) where
@@ -21,18 +18,18 @@ module _ (m : Machine) (t : ℕ) where
   gated i Open h = let z : _≡_ {A = ℕ} 0 1 = cc in absurd (omega arith)
   gated i (Closed k) h = refl
 
-  decoded : (d : Decoded) → hasPassed (byDecoded m t d .outcome) ≡ false → byDecoded m t d .after ≡ m
+  decoded : (d : Told Instruction) → hasPassed (byDecoded m t d .outcome) ≡ false → byDecoded m t d .after ≡ m
   unfolding gatedOf
-  decoded (Decodes i) h = gated i (gateOf (m .control) t i) h
-  decoded (Rejects r) h = refl
+  decoded (accepted i) h = gated i (gateOf (m .control) t i) h
+  decoded (refused n vs) h = refl
 
   pub offer-unchanged : (w : ℕ) → hasPassed (offerOf m t w .outcome) ≡ false → offerOf m t w .after ≡ m
   unfolding offerOf
   offer-unchanged w h = decoded (decodeOf w) h
 
-  checked : (w : ℕ) (k : CallCheck) → hasPassed (byCheck m t w k .outcome) ≡ false → byCheck m t w k .after ≡ m
-  checked w Fine h = offer-unchanged w h
-  checked w (Refuses r) h = refl
+  checked : (w : ℕ) (k : Told (Unit {0})) → hasPassed (byCheck m t w k .outcome) ≡ false → byCheck m t w k .after ≡ m
+  checked w (accepted u) h = offer-unchanged w h
+  checked w (refused n vs) h = refl
 
   step-unchanged : (w : ℕ) → hasPassed (stepOf m t w .outcome) ≡ false → stepOf m t w .after ≡ m
   unfolding stepOf

@@ -2,13 +2,6 @@
 ghost use Rattle.step_rules.specs.Alike.{OffersAlike};
 ghost use Rattle.step_rules.specs.Kept.{KeepsFormed};
 ghost use Rattle.step_rules.specs.Unchanged.{Unchanged};
-use machine::refusal::Refusal;
-
-// What the checks of a call find.
-pub enum CallCheck {
-    Fine,
-    Refuses(Refusal),
-}
 
 // The laws of a word that are no single function's: it keeps a well-formed machine well formed, changes nothing unless it
 // passes, and goes alike on machines that agree on control part and thread settings.

@@ -5,6 +5,7 @@ ghost use mathlib.Core.List.{List};
 ghost use Prim.Native.Nat.{ℕ, _<_};
 ghost use lib.ListN.{length};
 ghost use Rattle.machine.specs.Machine.{stores};
+ghost use Rattle.answers.specs.Outcomes.{toldOutcome};
 ghost use Rattle.word_rules.specs.Units.{badWord, configRows, cellRows, storeRows};
 ghost use Rattle.effects.specs.Offered.{StoresOffered};
 use config_unit::rd_cfg;
@@ -40,7 +41,7 @@ fn cell_word(
     bank_b: usize,
 ) -> Outcome
     requires { ⌜ (length (now settings) ≡ 192) × (length (now config) ≡ 512) × (length (now marks) ≡ 1024) × (length (now «src_a») ≡ 2048) × (length (now «src_b») ≡ 2048) × (t < 3) × («bank_a» < 2) × («bank_b» < 2) ⌝ }
-    ensures { λ r. ⌜ ((gprs dest : List ℕ) → StoresOffered blocks owned t «bank_a» «bank_b» (cellRows op word badWord) (now (settings .entry)) (stores gprs (now (config .entry)) dest (now (marks .entry)) (now («src_a» .entry)) (now («src_b» .entry))) r (now (settings .entry)) (stores gprs (now (config .entry)) dest (now (marks .exit)) (now («src_a» .exit)) (now («src_b» .exit)))) ⌝ }
+    ensures { λ r. ⌜ ((gprs dest : List ℕ) → StoresOffered blocks owned t «bank_a» «bank_b» (cellRows op word badWord) (now (settings .entry)) (stores gprs (now (config .entry)) dest (now (marks .entry)) (now («src_a» .entry)) (now («src_b» .entry))) (toldOutcome r) (now (settings .entry)) (stores gprs (now (config .entry)) dest (now (marks .exit)) (now («src_a» .exit)) (now («src_b» .exit)))) ⌝ }
 {
     let stalls = blocks / 64 % 2 == 1;
     match op {
@@ -71,7 +72,7 @@ fn config_word(
     bank_b: usize,
 ) -> Outcome
     requires { ⌜ (length (now settings) ≡ 192) × (length (now gprs) ≡ 192) × (length (now config) ≡ 512) × (length (now marks) ≡ 1024) × (length (now «src_a») ≡ 2048) × (length (now «src_b») ≡ 2048) × (t < 3) × («bank_a» < 2) × («bank_b» < 2) ⌝ }
-    ensures { λ r. ⌜ ((dest : List ℕ) → StoresOffered blocks owned t «bank_a» «bank_b» (configRows op word (cellRows op word badWord)) (now (settings .entry)) (stores (now (gprs .entry)) (now (config .entry)) dest (now (marks .entry)) (now («src_a» .entry)) (now («src_b» .entry))) r (now (settings .exit)) (stores (now (gprs .exit)) (now (config .exit)) dest (now (marks .exit)) (now («src_a» .exit)) (now («src_b» .exit)))) ⌝ }
+    ensures { λ r. ⌜ ((dest : List ℕ) → StoresOffered blocks owned t «bank_a» «bank_b» (configRows op word (cellRows op word badWord)) (now (settings .entry)) (stores (now (gprs .entry)) (now (config .entry)) dest (now (marks .entry)) (now («src_a» .entry)) (now («src_b» .entry))) (toldOutcome r) (now (settings .exit)) (stores (now (gprs .exit)) (now (config .exit)) dest (now (marks .exit)) (now («src_a» .exit)) (now («src_b» .exit)))) ⌝ }
 {
     let stalls = blocks / 128 % 2 == 1;
     match op {
@@ -116,7 +117,7 @@ pub fn store_word(
     bank_b: usize,
 ) -> Outcome
     requires { ⌜ (length (now settings) ≡ 192) × (length (now gprs) ≡ 192) × (length (now config) ≡ 512) × (length (now marks) ≡ 1024) × (length (now «src_a») ≡ 2048) × (length (now «src_b») ≡ 2048) × (t < 3) × («bank_a» < 2) × («bank_b» < 2) ⌝ }
-    ensures { λ r. ⌜ ((dest : List ℕ) → StoresOffered blocks owned t «bank_a» «bank_b» (storeRows op word) (now (settings .entry)) (stores (now (gprs .entry)) (now (config .entry)) dest (now (marks .entry)) (now («src_a» .entry)) (now («src_b» .entry))) r (now (settings .exit)) (stores (now (gprs .exit)) (now (config .exit)) dest (now (marks .exit)) (now («src_a» .exit)) (now («src_b» .exit)))) ⌝ }
+    ensures { λ r. ⌜ ((dest : List ℕ) → StoresOffered blocks owned t «bank_a» «bank_b» (storeRows op word) (now (settings .entry)) (stores (now (gprs .entry)) (now (config .entry)) dest (now (marks .entry)) (now («src_a» .entry)) (now («src_b» .entry))) (toldOutcome r) (now (settings .exit)) (stores (now (gprs .exit)) (now (config .exit)) dest (now (marks .exit)) (now («src_a» .exit)) (now («src_b» .exit)))) ⌝ }
 {
     let stalls = blocks / 32 % 2 == 1;
     match op {

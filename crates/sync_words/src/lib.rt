@@ -2,6 +2,7 @@
 ghost use mathlib.Core.Path.{_≡_};
 ghost use lib.Dec.{ltb};
 ghost use Rattle.bits.specs.Field.{field};
+ghost use Rattle.word_rules.specs.Refused.{toldDecoded};
 ghost use Rattle.word_rules.specs.SyncWords.{blockOf, maskOf, atGetMOf, atRelMOf, stallWaitOf, semInitOf, semPostOf, semGetOf, semWaitOf};
 ghost use Rattle.word_rules.specs.Units.{badWord, syncRows};
 use machine::refusal::Refusal;
@@ -68,7 +69,7 @@ pub fn condition(word: u32) -> u8
 
 // ATGETM.
 fn at_get_m(word: u32) -> Decoded
-    ensures { λ r. ⌜ r ≡ atGetMOf word ⌝ }
+    ensures { λ r. ⌜ toldDecoded r ≡ atGetMOf word ⌝ }
 {
     let mutex = mutex(word);
     decodes_unless(
@@ -80,7 +81,7 @@ fn at_get_m(word: u32) -> Decoded
 
 // ATRELM.
 fn at_rel_m(word: u32) -> Decoded
-    ensures { λ r. ⌜ r ≡ atRelMOf word ⌝ }
+    ensures { λ r. ⌜ toldDecoded r ≡ atRelMOf word ⌝ }
 {
     let mutex = mutex(word);
     decodes_unless(
@@ -92,7 +93,7 @@ fn at_rel_m(word: u32) -> Decoded
 
 // STALLWAIT.
 fn stall_wait(word: u32) -> Decoded
-    ensures { λ r. ⌜ r ≡ stallWaitOf word ⌝ }
+    ensures { λ r. ⌜ toldDecoded r ≡ stallWaitOf word ⌝ }
 {
     Decoded::Decodes(Instruction::Sync(SyncWord::StallWait {
         block: block(word),
@@ -102,7 +103,7 @@ fn stall_wait(word: u32) -> Decoded
 
 // SEMINIT.
 fn sem_init(word: u32) -> Decoded
-    ensures { λ r. ⌜ r ≡ semInitOf word ⌝ }
+    ensures { λ r. ⌜ toldDecoded r ≡ semInitOf word ⌝ }
 {
     Decoded::Decodes(Instruction::Sync(SyncWord::SemInit {
         maximum: maximum(word),
@@ -113,21 +114,21 @@ fn sem_init(word: u32) -> Decoded
 
 // SEMPOST.
 fn sem_post(word: u32) -> Decoded
-    ensures { λ r. ⌜ r ≡ semPostOf word ⌝ }
+    ensures { λ r. ⌜ toldDecoded r ≡ semPostOf word ⌝ }
 {
     Decoded::Decodes(Instruction::Sync(SyncWord::SemPost { mask: mask(word) }))
 }
 
 // SEMGET.
 fn sem_get(word: u32) -> Decoded
-    ensures { λ r. ⌜ r ≡ semGetOf word ⌝ }
+    ensures { λ r. ⌜ toldDecoded r ≡ semGetOf word ⌝ }
 {
     Decoded::Decodes(Instruction::Sync(SyncWord::SemGet { mask: mask(word) }))
 }
 
 // SEMWAIT.
 fn sem_wait(word: u32) -> Decoded
-    ensures { λ r. ⌜ r ≡ semWaitOf word ⌝ }
+    ensures { λ r. ⌜ toldDecoded r ≡ semWaitOf word ⌝ }
 {
     Decoded::Decodes(Instruction::Sync(SyncWord::SemWait {
         block: block(word),
@@ -138,7 +139,7 @@ fn sem_wait(word: u32) -> Decoded
 
 // What a word with an opcode of the sync unit says; any other opcode is 2.
 pub fn decode_sync(op: u32, word: u32) -> Decoded
-    ensures { λ r. ⌜ r ≡ syncRows op word badWord ⌝ }
+    ensures { λ r. ⌜ toldDecoded r ≡ syncRows op word badWord ⌝ }
 {
     match op {
         0xA0 => at_get_m(word),

@@ -11,12 +11,13 @@ use Rattle.bits.specs.Overwrite.{over, Wrote}
 use Rattle.bits.proofs.Choices.{and-left, and-right}
 use Rattle.machine.specs.Machine.{Machine}
 use Rattle.machine.specs.Formed.{sized, formed, wellFormed}
-use Rattle.image.specs.declared.Saved.{Saved}
-use Rattle.layout.specs.Image.{image, imageSize}
-use Rattle.image.specs.Calls.{Saving, saving, saveOf}
-use Rattle.image.proofs.Answers.{save-written}
-use Rattle.layout.proofs.ImageLaws.{image-lawful, formed-ok}
+use Rattle.answers.specs.Answers.{Call}
 use Rattle.run_rules.specs.Run.{Summary}
+use Rattle.layout.specs.Image.{image, imageSize}
+use Rattle.layout.proofs.ImageLaws.{image-lawful, formed-ok}
+use Rattle.image.specs.declared.Saved.{Saved}
+use Rattle.image.specs.Calls.{saving, saveOf}
+use Rattle.image.proofs.Answers.{save-written}
 use Rattle.records.specs.declared.counts.Counts.{Counts}
 use Rattle.report.specs.Lines.{endLine}
 use Rattle.telling.specs.Told.{imageBytes, sixLines, callRefused, toldOf}
@@ -47,7 +48,7 @@ image-written m out at r o h room e =
     let t : rest ≡ drop at out = take-all k (drop at out) (omega arith) in
     let long : imageSize ≤ length rest = rw (t, d) (omega arith) in
     let w = save-written m rest (and-left (sized m) (formed m) h) (and-right (sized m) (formed m) h) long in
-    let same : o ≡ over rest 0 (image .put m) = ap (λ (x : Saving). x .out) (e ∙ sym w) in
+    let same : o ≡ over rest 0 (image .put m) = ap (λ (x : Call (List ℕ)). x .after) (e ∙ sym w) in
     record {
       placed = ap (λ (n : ℕ). at + n) (sym (image-lawful .long m (formed-ok m h)));
       list = rw same (over-rest out at (image .put m) (omega arith));

@@ -3,10 +3,10 @@ use Prim.Native.Nat.{ℕ}
 use mathlib.Core.Bool.{Bool, true, false, cond}
 use mathlib.Core.List.{List, _++_}
 use Rattle.machine.specs.Machine.{Machine}
-use Rattle.layout.specs.Image.{image}
-use Rattle.turns.specs.declared.ending.Ending.{Ending}
-use Rattle.turns.specs.declared.ending.Ending.the-variants.{Finished, Stuck, BudgetUsed, WordRefused, CallRefused}
+use Rattle.answers.specs.Answers.{Told, accepted, refused}
+use Rattle.turns.specs.Ending.{RunEnd}
 use Rattle.run_rules.specs.Run.{Summary}
+use Rattle.layout.specs.Image.{image}
 use Rattle.records.specs.declared.counts.Counts.{Counts}
 use Rattle.report.specs.Words.{nextWord}
 use Rattle.report.specs.Lines.{numberLine, endLine, runLines}
@@ -20,12 +20,9 @@ abbrev pub sixLines : Summary → Counts → List ℕ
 sixLines r n =
     runLines (r .answer) (r .turns) (r .cursor) (n .n0) (n .n1) (n .n2) ++ numberLine nextWord (r .cursor .next)
 
-abbrev pub callRefused : Ending → Bool
-callRefused Finished = false
-callRefused Stuck = false
-callRefused BudgetUsed = false
-callRefused (WordRefused e) = false
-callRefused (CallRefused e) = true
+abbrev pub callRefused : Told RunEnd → Bool
+callRefused (accepted e) = false
+callRefused (refused n vs) = true
 
 -- six lines and the image after the run; of a refused call `rejected N` and the image as it came
 unfoldable pub toldOf : List ℕ → Summary → Counts → List ℕ

@@ -7,6 +7,7 @@ ghost use lib.ListN.{length};
 ghost use Rattle.bits.specs.Overwrite.{Wrote};
 ghost use Rattle.machine.specs.Formed.{wellFormed};
 ghost use Rattle.machine.specs.Fresh.{machineOf};
+ghost use Rattle.turns.specs.Ending.{toldEnding};
 ghost use Rattle.run_rules.specs.Run.{summary};
 ghost use Rattle.report.specs.Lines.{endLine};
 ghost use Rattle.telling.specs.Told.{imageBytes, sixLines, callRefused, toldOf};
@@ -39,7 +40,7 @@ fn put_ran(
     m: WholeMachine,
 ) -> usize
     requires { ⌜ (wellFormed (machineOf m) ≡ true) × (49000 ≤ length (now out)) ⌝ }
-    ensures { λ r. ⌜ Wrote (now (out .entry)) 0 (sixLines (summary answer turns (machineOf m) cursor) counts ++ imageBytes (machineOf m)) (now (out .exit)) r ⌝ }
+    ensures { λ r. ⌜ Wrote (now (out .entry)) 0 (sixLines (summary (toldEnding answer) turns (machineOf m) cursor) counts ++ imageBytes (machineOf m)) (now (out .exit)) r ⌝ }
 {
     let p = report::put_run_lines(
         out,
@@ -58,7 +59,7 @@ fn put_ran(
 // `rejected N`, and the image as it came. Internal: there is room.
 fn put_rejected(out: &mut [u8], answer: Ending, came: &[u8]) -> usize
     requires { ⌜ 80 + length (now came) ≤ length (now out) ⌝ }
-    ensures { λ r. ⌜ Wrote (now (out .entry)) 0 (endLine answer ++ now (came .entry)) (now (out .exit)) r ⌝ }
+    ensures { λ r. ⌜ Wrote (now (out .entry)) 0 (endLine (toldEnding answer) ++ now (came .entry)) (now (out .exit)) r ⌝ }
 {
     let p = report::put_end_line(out, 0, answer);
     text::put_bytes(out, p, came)
@@ -66,7 +67,7 @@ fn put_rejected(out: &mut [u8], answer: Ending, came: &[u8]) -> usize
 
 // Whether the call was refused.
 fn call_refused(e: Ending) -> bool
-    ensures { λ r. ⌜ r ≡ callRefused e ⌝ }
+    ensures { λ r. ⌜ r ≡ callRefused (toldEnding e) ⌝ }
 {
     match e {
         Ending::Finished => false,
@@ -88,7 +89,7 @@ pub fn put_told(
     m: WholeMachine,
 ) -> usize
     requires { ⌜ (wellFormed (machineOf m) ≡ true) × (49000 ≤ length (now out)) × (length (now came) ≤ 48473) ⌝ }
-    ensures { λ r. ⌜ Wrote (now (out .entry)) 0 (toldOf (now (came .entry)) (summary answer turns (machineOf m) cursor) counts) (now (out .exit)) r ⌝ }
+    ensures { λ r. ⌜ Wrote (now (out .entry)) 0 (toldOf (now (came .entry)) (summary (toldEnding answer) turns (machineOf m) cursor) counts) (now (out .exit)) r ⌝ }
 {
     if call_refused(answer) {
         return put_rejected(out, answer, came);

@@ -2,8 +2,8 @@
 use Prim.Native.Nat.{ℕ, _+_}
 use mathlib.Core.Bool.{cond}
 use lib.Dec.{ltb, eqb}
-use Rattle.machine.specs.declared.refusal.Outcome.{Outcome}
-use Rattle.machine.specs.declared.refusal.Outcome.the-variants.{Idle, Passed, Stalled, Refused}
+use Rattle.answers.specs.Answers.{Told, accepted, refused}
+use Rattle.answers.specs.Outcomes.{Progress, idle, passed, stalled}
 use Rattle.turns.specs.declared.cursor.Cursor.{Cursor}
 
 abbrev pub cursor : ℕ → ℕ → ℕ → ℕ → Cursor
@@ -25,8 +25,8 @@ pastOf c =
     (cursor (c .at0) (c .at1) (c .at2 + 1) (following (c .next))))
 
 -- a passed word is left behind; a refused one keeps its position, and the next thread stays on it
-unfoldable pub movedOf : Outcome → Cursor → Cursor
-movedOf Idle c = onwardOf c
-movedOf Passed c = pastOf c
-movedOf (Stalled cause) c = onwardOf c
-movedOf (Refused r) c = c
+unfoldable pub movedOf : Told Progress → Cursor → Cursor
+movedOf (accepted idle) c = onwardOf c
+movedOf (accepted passed) c = pastOf c
+movedOf (accepted (stalled n)) c = onwardOf c
+movedOf (refused n vs) c = c

@@ -2,6 +2,7 @@
 ghost use mathlib.Core.Path.{_≡_};
 ghost use Prim.Native.Nat.{_≤_};
 ghost use Rattle.machine.specs.Sizes.{streamMost};
+ghost use Rattle.answers.specs.Outcomes.{toldOutcome};
 ghost use Rattle.turns.specs.Cursor.{following, onwardOf, pastOf, movedOf};
 use machine::refusal::Outcome;
 
@@ -66,7 +67,7 @@ fn past(c: Cursor) -> Cursor
 // The cursor after a turn with this outcome. Internal: each position is within a stream.
 pub fn moved(o: Outcome, c: Cursor) -> Cursor
     requires { ⌜ (c .at0 ≤ streamMost) × (c .at1 ≤ streamMost) × (c .at2 ≤ streamMost) ⌝ }
-    ensures { λ r. ⌜ r ≡ movedOf o c ⌝ }
+    ensures { λ r. ⌜ r ≡ movedOf (toldOutcome o) c ⌝ }
 {
     match o {
         Outcome::Idle => onward(c),

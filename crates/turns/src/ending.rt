@@ -1,8 +1,9 @@
 // How a run ends: before a turn, or by a refused word.
 ghost use mathlib.Core.Path.{_≡_};
 ghost use Prim.Native.Nat.{_<_};
+ghost use Rattle.answers.specs.Outcomes.{toldOutcome};
 ghost use Rattle.turns.specs.Streams.{streams};
-ghost use Rattle.turns.specs.Ending.{haltOf, refusedWord, quietAfter};
+ghost use Rattle.turns.specs.Ending.{toldHalt, haltOf, refusedWord, quietAfter};
 use crate::cursor::Cursor;
 use crate::streams::used_up;
 use machine::refusal::Outcome;
@@ -25,7 +26,7 @@ pub enum Halt {
 
 // What ends a run before a turn: `quiet` turns in a row went without a passed word, and `left` turns of the budget are left.
 pub fn halted(s0: &[u32], s1: &[u32], s2: &[u32], c: Cursor, quiet: u32, left: u32) -> Halt
-    ensures { λ r. ⌜ r ≡ haltOf (streams (now (s0 .entry)) (now (s1 .entry)) (now (s2 .entry))) c quiet left ⌝ }
+    ensures { λ r. ⌜ toldHalt r ≡ haltOf (streams (now (s0 .entry)) (now (s1 .entry)) (now (s2 .entry))) c quiet left ⌝ }
 {
     if used_up(s0, s1, s2, c) {
         return Halt::Ends(Ending::Finished);
@@ -41,7 +42,7 @@ pub fn halted(s0: &[u32], s1: &[u32], s2: &[u32], c: Cursor, quiet: u32, left: u
 
 // A refused word ends the run.
 pub fn refused_word(o: Outcome) -> Halt
-    ensures { λ r. ⌜ r ≡ refusedWord o ⌝ }
+    ensures { λ r. ⌜ toldHalt r ≡ refusedWord (toldOutcome o) ⌝ }
 {
     match o {
         Outcome::Idle => Halt::GoesOn,
@@ -54,7 +55,7 @@ pub fn refused_word(o: Outcome) -> Halt
 // Turns in a row without a passed word, a turn with this outcome included. Internal: fewer than three went before.
 pub fn quiet_after(o: Outcome, quiet: u32) -> u32
     requires { ⌜ quiet < 3 ⌝ }
-    ensures { λ r. ⌜ r ≡ quietAfter o quiet ⌝ }
+    ensures { λ r. ⌜ r ≡ quietAfter (toldOutcome o) quiet ⌝ }
 {
     match o {
         Outcome::Idle => quiet + 1,

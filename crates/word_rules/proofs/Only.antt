@@ -1,22 +1,21 @@
 -- Which instructions some rows of the table can say.
 use Prim.Native.Nat.{ℕ}
-use mathlib.Core.Bool.{Bool, false, cond, _||_}
+use mathlib.Core.Bool.{Bool, false, _||_}
 use lib.Dec.{eqb, ltb}
 use Rattle.bits.specs.Field.{field, flag}
 use Rattle.bits.proofs.Choices.{cond-both}
+use Rattle.answers.specs.Answers.{Told, accepted, refused}
 use Rattle.word_rules.specs.declared.instruction.MatrixWord.the-variants.{TrnspSrcB, MovB2A, ZeroAcc, ClearDValid, SetDValid}
 use Rattle.word_rules.specs.declared.instruction.Instruction.{Instruction}
 use Rattle.word_rules.specs.declared.instruction.Instruction.the-variants.{Nop, Scalar, Sync, Config, Matrix}
-use Rattle.word_rules.specs.declared.instruction.Decoded.{Decoded}
-use Rattle.word_rules.specs.declared.instruction.Decoded.the-variants.{Decodes, Rejects}
 use Rattle.word_rules.specs.MatrixWords.{hasAddrMod, viewRows, placePast}
 use Rattle.word_rules.specs.Refused.{decodesUnless}
 use Rattle.word_rules.specs.Units.{controlRows, storeRows}
 
 -- what is refused says nothing
-abbrev pub Only : (Instruction → Type 0) → Decoded → Type 0
-Only P (Decodes i) = P i
-Only P (Rejects r) = Unit
+abbrev pub Only : (Instruction → Type 0) → Told Instruction → Type 0
+Only P (accepted i) = P i
+Only P (refused n vs) = Unit
 
 abbrev pub IsScalar : Instruction → Type 0
 IsScalar Nop = ⊥

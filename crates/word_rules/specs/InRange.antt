@@ -2,6 +2,7 @@
 use Prim.Native.Nat.{ℕ, _+_, _*_, _<_, _≤_}
 use mathlib.Core.Path.{_≡_}
 use mathlib.Core.Bool.{Bool}
+use Rattle.answers.specs.Answers.{Told, accepted, refused}
 use Rattle.word_rules.specs.declared.instruction.Operand.{Operand}
 use Rattle.word_rules.specs.declared.instruction.Operand.the-variants.{Constant, Register}
 use Rattle.word_rules.specs.declared.instruction.ScalarWord.{ScalarWord}
@@ -14,8 +15,6 @@ use Rattle.word_rules.specs.declared.instruction.MatrixWord.{MatrixWord}
 use Rattle.word_rules.specs.declared.instruction.MatrixWord.the-variants.{TrnspSrcB, MovB2A, ZeroAcc, ClearDValid, SetDValid}
 use Rattle.word_rules.specs.declared.instruction.Instruction.{Instruction}
 use Rattle.word_rules.specs.declared.instruction.Instruction.the-variants.{Nop, Scalar, Sync, Config, Matrix}
-use Rattle.word_rules.specs.declared.instruction.Decoded.{Decoded}
-use Rattle.word_rules.specs.declared.instruction.Decoded.the-variants.{Decodes, Rejects}
 use Rattle.word_rules.specs.MatrixWords.{viewRows}
 
 -- a constant has 6 bits; a GPR number is 0 to 63
@@ -72,6 +71,6 @@ InRange (Config word) = ConfigInRange word
 InRange (Matrix word) = MatrixInRange word
 
 -- what is refused has no numbers
-abbrev pub DecodedInRange : Decoded → Type 0
-DecodedInRange (Decodes i) = InRange i
-DecodedInRange (Rejects r) = Unit
+abbrev pub DecodedInRange : Told Instruction → Type 0
+DecodedInRange (accepted i) = InRange i
+DecodedInRange (refused n vs) = Unit

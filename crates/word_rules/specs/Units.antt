@@ -2,18 +2,18 @@
 use Prim.Native.Nat.{ℕ}
 use mathlib.Core.Bool.{Bool, true, false, cond}
 use lib.Dec.{eqb}
-use Rattle.machine.specs.declared.refusal.Refusal.the-variants.{BadWord}
+use mathlib.Core.List.{[]}
+use Rattle.answers.specs.Answers.{Told, accepted, refused}
 use Rattle.word_rules.specs.declared.instruction.MatrixWord.the-variants.{TrnspSrcB}
 use Rattle.word_rules.specs.declared.instruction.ScalarWord.the-variants.{DmaNop}
 use Rattle.word_rules.specs.declared.instruction.Instruction.the-variants.{Nop, Scalar, Matrix}
-use Rattle.word_rules.specs.declared.instruction.Decoded.{Decoded}
-use Rattle.word_rules.specs.declared.instruction.Decoded.the-variants.{Decodes, Rejects}
 use Rattle.word_rules.specs.declared.unit.WordUnit.{WordUnit}
 use Rattle.word_rules.specs.declared.unit.WordUnit.the-variants.{NoUnit, ScalarUnit, SyncUnit, ConfigUnit, MatrixUnit, UnknownUnit}
 use Rattle.word_rules.specs.ScalarWords.{setDmaRegOf, addDmaRegOf, mulDmaRegOf}
 use Rattle.word_rules.specs.SyncWords.{atGetMOf, atRelMOf, stallWaitOf, semInitOf, semPostOf, semGetOf, semWaitOf}
 use Rattle.word_rules.specs.ConfigWords.{wrCfgOf, rdCfgOf, setC16Of, rmwCibOf}
 use Rattle.word_rules.specs.MatrixWords.{movB2AOf, zeroAccOf, clearDValidOf, setDValidOf}
+use Rattle.word_rules.specs.declared.instruction.Instruction.{Instruction}
 
 -- by the last column of the table
 unfoldable pub unitOf : ℕ → WordUnit
@@ -45,20 +45,20 @@ unitOf op =
     UnknownUnit)))))))))))))))))))))))
 
 -- any other opcode is 2
-abbrev pub badWord : Decoded
-badWord = Rejects BadWord
+abbrev pub badWord : Told Instruction
+badWord = refused 2 []
 
 -- the rows of block bit B5, and what any other opcode says
-abbrev pub scalarRows : ℕ → ℕ → Decoded → Decoded
+abbrev pub scalarRows : ℕ → ℕ → Told Instruction → Told Instruction
 scalarRows op w other =
     cond (eqb op 0x45) (setDmaRegOf w)
     (cond (eqb op 0x58) (addDmaRegOf w)
     (cond (eqb op 0x5A) (mulDmaRegOf w)
-    (cond (eqb op 0x60) (Decodes (Scalar DmaNop))
+    (cond (eqb op 0x60) (accepted (Scalar DmaNop))
     other)))
 
 -- B1
-abbrev pub syncRows : ℕ → ℕ → Decoded → Decoded
+abbrev pub syncRows : ℕ → ℕ → Told Instruction → Told Instruction
 syncRows op w other =
     cond (eqb op 0xA0) (atGetMOf w)
     (cond (eqb op 0xA1) (atRelMOf w)
@@ -70,7 +70,7 @@ syncRows op w other =
     other))))))
 
 -- B7
-abbrev pub configRows : ℕ → ℕ → Decoded → Decoded
+abbrev pub configRows : ℕ → ℕ → Told Instruction → Told Instruction
 configRows op w other =
     cond (eqb op 0xB0) (wrCfgOf w)
     (cond (eqb op 0xB1) (rdCfgOf w)
@@ -82,22 +82,22 @@ configRows op w other =
     other))))))
 
 -- B6: the rows that work on source cells and marks
-abbrev pub cellRows : ℕ → ℕ → Decoded → Decoded
+abbrev pub cellRows : ℕ → ℕ → Told Instruction → Told Instruction
 cellRows op w other =
-    cond (eqb op 0x16) (Decodes (Matrix TrnspSrcB))
+    cond (eqb op 0x16) (accepted (Matrix TrnspSrcB))
     (cond (eqb op 0x0B) (movB2AOf w)
     (cond (eqb op 0x10) (zeroAccOf w)
     other))
 
 -- B6: the rows that work on bank owners and pointers
-abbrev pub bankRows : ℕ → ℕ → Decoded → Decoded
+abbrev pub bankRows : ℕ → ℕ → Told Instruction → Told Instruction
 bankRows op w other =
     cond (eqb op 0x36) (clearDValidOf w)
     (cond (eqb op 0x57) (setDValidOf w)
     other)
 
-abbrev pub rowsOf : WordUnit → ℕ → ℕ → Decoded
-rowsOf NoUnit op w = Decodes Nop
+abbrev pub rowsOf : WordUnit → ℕ → ℕ → Told Instruction
+rowsOf NoUnit op w = accepted Nop
 rowsOf ScalarUnit op w = scalarRows op w badWord
 rowsOf SyncUnit op w = syncRows op w badWord
 rowsOf ConfigUnit op w = configRows op w badWord
@@ -119,9 +119,9 @@ onControl op =
     false))))))))
 
 -- the rows of the words that do
-abbrev pub controlRows : ℕ → ℕ → Decoded
+abbrev pub controlRows : ℕ → ℕ → Told Instruction
 controlRows op w = syncRows op w (bankRows op w badWord)
 
 -- and of those that leave it alone
-abbrev pub storeRows : ℕ → ℕ → Decoded
-storeRows op w = cond (eqb op 0x02) (Decodes Nop) (scalarRows op w (configRows op w (cellRows op w badWord)))
+abbrev pub storeRows : ℕ → ℕ → Told Instruction
+storeRows op w = cond (eqb op 0x02) (accepted Nop) (scalarRows op w (configRows op w (cellRows op w badWord)))

@@ -1,5 +1,6 @@
 // From a word to its instruction, by the opcode (document 01, "Words of the base").
 ghost use mathlib.Core.Path.{_≡_};
+ghost use Rattle.word_rules.specs.Refused.{toldDecoded};
 ghost use Rattle.word_rules.specs.Decode.{decodeOf};
 use config_words::decode_config;
 use machine::refusal::Refusal;
@@ -13,7 +14,7 @@ use word_rules::unit::unit_of;
 
 // What any 32-bit word says: its instruction, or refusal 2 or 3.
 pub fn decode(word: u32) -> Decoded
-    ensures { λ r. ⌜ r ≡ decodeOf word ⌝ }
+    ensures { λ r. ⌜ toldDecoded r ≡ decodeOf word ⌝ }
 {
     let op = (word >> 24) % 256;
     let unit = unit_of(op);

@@ -8,7 +8,7 @@ use Rattle.machine.specs.Formed.{sized, formed}
 use Rattle.machine.proofs.SizedFacts.{sized-facts}
 use Rattle.image.specs.declared.Saved.the-variants.{Written}
 use Rattle.image.specs.Calls.{saving}
-use Rattle.image.proofs.Answers.{save-numbered, says-no, says-yes, save-unsized, save-malformed, save-short, save-written}
+use Rattle.image.proofs.Answers.{says-no, says-yes, save-unsized, save-malformed, save-short, save-written}
 use borrow.Author.Needs.{needs}
 use Rattle.image.proofs.save.Statement.{statement}
 use Rattle.image.proofs.save.Tie as tie
@@ -27,19 +27,19 @@ formed-yes : (c : tie.Else2) → formed (lent (c .before .before .before .before
 formed-yes c = says-yes (c .before .machine-formed .result) (c .before .machine-formed .ensures) (c .if2 .left)
 
 returns : tie.Need-returns
-returns c = save-numbered _ _ (save-unsized (lent (c .before .before .before .before .before .before .before .before .before .before)) (c .before .before .before .before .before .before .before .before .before .before .args .out .now) (says-no (c .before .machine-sized .result) (c .before .machine-sized .ensures) (c .if1 .taken)))
+returns c = save-unsized (lent (c .before .before .before .before .before .before .before .before .before .before)) (c .before .before .before .before .before .before .before .before .before .before .args .out .now) (says-no (c .before .machine-sized .result) (c .before .machine-sized .ensures) (c .if1 .taken))
 
 returns-2 : tie.Need-returns-2
-returns-2 c = save-numbered _ _ (save-malformed (lent (c .before .before .before .before .before .before .before .before .before .before .before .before)) (c .before .before .before .before .before .before .before .before .before .before .before .before .args .out .now) (sized-yes (c .before .before)) (says-no (c .before .machine-formed .result) (c .before .machine-formed .ensures) (c .if2 .taken)))
+returns-2 c = save-malformed (lent (c .before .before .before .before .before .before .before .before .before .before .before .before)) (c .before .before .before .before .before .before .before .before .before .before .before .before .args .out .now) (sized-yes (c .before .before)) (says-no (c .before .machine-formed .result) (c .before .machine-formed .ensures) (c .if2 .taken))
 
 returns-3 : tie.Need-returns-3
-returns-3 c = save-numbered _ _ (save-short (lent (c .before .before .before .before .before .before .before .before .before .before .before .before .before)) (c .before .before .before .before .before .before .before .before .before .before .before .before .before .args .out .now) (sized-yes (c .before .before .before)) (formed-yes (c .before)) (c .if3 .taken))
+returns-3 c = save-short (lent (c .before .before .before .before .before .before .before .before .before .before .before .before .before)) (c .before .before .before .before .before .before .before .before .before .before .before .before .before .args .out .now) (sized-yes (c .before .before .before)) (formed-yes (c .before)) (c .if3 .taken)
 
 write-machine-requires : tie.Need-write-machine-requires
 write-machine-requires c κs = let f = sized-facts (lent (c .before .before .before .before .before .before .before .before .before .before .before .before .before .before)) (sized-yes (c .before .before .before .before)) in (omega arith, f .settings, f .gprs, f .config, f .dest, f .marks, f .srcA, f .srcB)
 
 returns-4 : tie.Need-returns-4
-returns-4 c = save-numbered _ _ (ap (λ (o : List ℕ). saving Written o) (c .before .before .write-machine .ensures .list) ∙ save-written (lent (c .before .before .before .before .before .before .before .before .before .before .before .before .before .before .before .before .before)) (c .before .before .before .before .before .before .before .before .before .before .before .before .before .before .before .before .before .args .out .now) (sized-yes (c .before .before .before .before .before .before .before)) (formed-yes (c .before .before .before .before .before)) (c .before .before .before .before .if3 .left))
+returns-4 c = ap (λ (o : List ℕ). saving Written o) (c .before .before .write-machine .ensures .list) ∙ save-written (lent (c .before .before .before .before .before .before .before .before .before .before .before .before .before .before .before .before .before)) (c .before .before .before .before .before .before .before .before .before .before .before .before .before .before .before .before .before .args .out .now) (sized-yes (c .before .before .before .before .before .before .before)) (formed-yes (c .before .before .before .before .before)) (c .before .before .before .before .if3 .left)
 
 pub save-spec : {M : Type 1} → statement M
 save-spec =

@@ -24,7 +24,7 @@ store-word-requires c κs =
     (f .settings, f .gprs, f .config, f .marks, f .srcA, f .srcB, p .2, omega (arith, pointer-at (a .control) 0 (p .1)), omega (arith, pointer-at (a .control) 1 (p .1)))
 
 returns-2 : tie.Need-returns-2
-returns-2 c = rw (c .finished .ensures) (offer-on-stores _ _ _ _ _ _ (c .before .before .before .before .before .before .before .before .before .before .before .before .before .before .before .before .before .before .before .before .before .before .before .before .judge .ensures .0) (c .before .before .before .before .before .before .before .before .before .before .before .before .before .before .before .before .before .before .before .before .before .before .before .before .judge .ensures .1) _ (c .before .before .before .before .before .before .before .before .before .before .before .before .before .before .before .before .before .before .before .before .before .before .before .on-control .result) (c .before .before .before .before .before .before .before .before .before .before .before .before .before .before .before .before .before .before .before .before .before .before .before .on-control .ensures) (c .before .before .before .before .before .before .before .before .before .before .before .before .before .before .before .before .before .before .before .before .before .before .if1 .left) (c .before .before .before .before .before .before .before .before .before .before .before .before .before .before .before .before .before .before .before .before .before .matrix-owns .result) (c .before .before .before .before .before .before .before .before .before .before .before .before .before .before .before .before .before .before .before .before .before .matrix-owns .ensures) _ _ _ (c .before .before .before .before .before .before .before .before .before .before .before .before .before .store-word .ensures _))
+returns-2 c = offer-on-stores _ _ _ _ _ _ (c .before .before .before .before .before .before .before .before .before .before .before .before .before .before .before .before .before .before .before .before .before .before .before .before .judge .ensures .0) (c .before .before .before .before .before .before .before .before .before .before .before .before .before .before .before .before .before .before .before .before .before .before .before .before .judge .ensures .1) _ (c .before .before .before .before .before .before .before .before .before .before .before .before .before .before .before .before .before .before .before .before .before .before .before .on-control .result) (c .before .before .before .before .before .before .before .before .before .before .before .before .before .before .before .before .before .before .before .before .before .before .before .on-control .ensures) (c .before .before .before .before .before .before .before .before .before .before .before .before .before .before .before .before .before .before .before .before .before .before .if1 .left) (c .before .before .before .before .before .before .before .before .before .before .before .before .before .before .before .before .before .before .before .before .before .matrix-owns .result) (c .before .before .before .before .before .before .before .before .before .before .before .before .before .before .before .before .before .before .before .before .before .matrix-owns .ensures) _ _ _ (c .before .before .before .before .before .before .before .before .before .before .before .before .before .store-word .ensures _) (c .finished .result) (c .finished .ensures)
 
 pub offer-spec : {M : Type 1} → statement M
 offer-spec =

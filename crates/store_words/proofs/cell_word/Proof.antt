@@ -18,7 +18,7 @@ returns-3 : tie.Need-returns-3
 returns-3 c gprs dest = let a = c .before .before .before .before .before .before .before .before .before .before .before .args in rw (c .before .before .before .before .before .match .keys3) (matrix-leaves _ _ _ _ _ _ _ _ _ _ _ _ _ (unless-only IsMatrix (hasAddrMod (a .word)) (placePast (viewRows (flag 18 (a .word))) (field 19 2 (a .word)) (field 0 14 (a .word))) _ tt) _ _ _ _ (rw (c .before .before .before .before .bank-of .ensures) at (c .before .before .zero-acc .ensures (a .owned) (a .bank-a) (a .bank-b) (a .src-a .now) (a .src-b .now))))
 
 returns-4 : tie.Need-returns-4
-returns-4 c gprs dest = rw (ne-eqb _ _ (c .match .rest .1), ne-eqb _ _ (c .match .rest .0 .1), ne-eqb _ _ (c .match .rest .0 .0 .1)) (refused-leaves _ _ _ _ _ _ _ _ _ _ _ _ _)
+returns-4 c gprs dest = rw (ne-eqb _ _ (c .match .rest .1), ne-eqb _ _ (c .match .rest .0 .1), ne-eqb _ _ (c .match .rest .0 .0 .1)) (refused-leaves _ _ _ _ _ _ _ _ _ _ _ _ _ _)
 
 pub cell-word-spec : {M : Type 1} → statement M
 cell-word-spec =

@@ -48,7 +48,7 @@ slice-aggregate-load-7 : tie.Need-slice-aggregate-load-7
 slice-aggregate-load-7 c = let s = c .before .before .before .before .before .before .before .before .before .before .before .before .before .before .before .before .before .before .before .before .before .before in counted _ (s .args .p .«src_b») 4096 (s .good .0 .1 .1 .1 .1 .1 .1 .1 .1 .1 .0 .1 .0 .1) (c .before .least7 .ensures .1)
 
 returns : tie.Need-returns
-returns c = let s = c .before .before .before .before .before .before .before .before .before .before .before .before .before .before .before .before .before .before .before .before .before .before .before .before .before .before .before .before .before .before .before in rw (lent-rest _ (s .args .p .settings) 384 (s .good .0 .1 .1 .1 .0 .1 .0 .1) (s .args .n .settings) (c .before .before .before .before .before .before .before .before .before .before .before .before .before .before .before .before .before .before .before .before .before .before .least .ensures .0), lent-rest _ (s .args .p .gprs) 384 (s .good .0 .1 .1 .1 .1 .0 .1 .0 .1) (s .args .n .gprs) (c .before .before .before .before .before .before .before .before .before .before .before .before .before .before .before .before .before .before .before .before .least2 .ensures .0), lent-rest _ (s .args .p .config) 1024 (s .good .0 .1 .1 .1 .1 .1 .0 .1 .0 .1) (s .args .n .config) (c .before .before .before .before .before .before .before .before .before .before .before .before .before .before .before .before .before .before .least3 .ensures .0), lent-rest _ (s .args .p .dest) 32768 (s .good .0 .1 .1 .1 .1 .1 .1 .0 .1 .0 .1) (s .args .n .dest) (c .before .before .before .before .before .before .before .before .before .before .before .before .before .before .before .before .least4 .ensures .0), lent-rest _ (s .args .p .marks) 2048 (s .good .0 .1 .1 .1 .1 .1 .1 .1 .0 .1 .0 .1) (s .args .n .marks) (c .before .before .before .before .before .before .before .before .before .before .before .before .before .before .least5 .ensures .0), lent-rest _ (s .args .p .«src_a») 4096 (s .good .0 .1 .1 .1 .1 .1 .1 .1 .1 .0 .1 .0 .1) (s .args .n .«src_a») (c .before .before .before .before .before .before .before .before .before .before .before .before .least6 .ensures .0), lent-rest _ (s .args .p .«src_b») 4096 (s .good .0 .1 .1 .1 .1 .1 .1 .1 .1 .1 .0 .1 .0 .1) (s .args .n .«src_b») (c .before .before .before .before .before .before .before .before .before .before .least7 .ensures .0), ← lent-start _ (s .args .p .settings) 384 (s .good .0 .1 .1 .1 .0 .1 .0 .1) (s .args .n .settings) (c .before .before .before .before .before .before .before .before .before .before .before .before .before .before .before .before .before .before .before .before .before .before .least .ensures .0), ← lent-start _ (s .args .p .gprs) 384 (s .good .0 .1 .1 .1 .1 .0 .1 .0 .1) (s .args .n .gprs) (c .before .before .before .before .before .before .before .before .before .before .before .before .before .before .before .before .before .before .before .before .least2 .ensures .0), ← lent-start _ (s .args .p .config) 1024 (s .good .0 .1 .1 .1 .1 .1 .0 .1 .0 .1) (s .args .n .config) (c .before .before .before .before .before .before .before .before .before .before .before .before .before .before .before .before .before .before .least3 .ensures .0), ← lent-start _ (s .args .p .dest) 32768 (s .good .0 .1 .1 .1 .1 .1 .1 .0 .1 .0 .1) (s .args .n .dest) (c .before .before .before .before .before .before .before .before .before .before .before .before .before .before .before .before .least4 .ensures .0), ← lent-start _ (s .args .p .marks) 2048 (s .good .0 .1 .1 .1 .1 .1 .1 .1 .0 .1 .0 .1) (s .args .n .marks) (c .before .before .before .before .before .before .before .before .before .before .before .before .before .before .least5 .ensures .0), ← lent-start _ (s .args .p .«src_a») 4096 (s .good .0 .1 .1 .1 .1 .1 .1 .1 .1 .0 .1 .0 .1) (s .args .n .«src_a») (c .before .before .before .before .before .before .before .before .before .before .before .before .least6 .ensures .0), ← lent-start _ (s .args .p .«src_b») 4096 (s .good .0 .1 .1 .1 .1 .1 .1 .1 .1 .1 .0 .1 .0 .1) (s .args .n .«src_b») (c .before .before .before .before .before .before .before .before .before .before .least7 .ensures .0)) (ap (loadedIn (s .args .p) (s .args .n)) (c .before .before .before .before .before .before .before .before .load .ensures .0))
+returns c = let s = c .before .before .before .before .before .before .before .before .before .before .before .before .before .before .before .before .before .before .before .before .before .before .before .before .before .before .before .before .before .before .before in rw (lent-rest _ (s .args .p .settings) 384 (s .good .0 .1 .1 .1 .0 .1 .0 .1) (s .args .n .settings) (c .before .before .before .before .before .before .before .before .before .before .before .before .before .before .before .before .before .before .before .before .before .before .least .ensures .0), lent-rest _ (s .args .p .gprs) 384 (s .good .0 .1 .1 .1 .1 .0 .1 .0 .1) (s .args .n .gprs) (c .before .before .before .before .before .before .before .before .before .before .before .before .before .before .before .before .before .before .before .before .least2 .ensures .0), lent-rest _ (s .args .p .config) 1024 (s .good .0 .1 .1 .1 .1 .1 .0 .1 .0 .1) (s .args .n .config) (c .before .before .before .before .before .before .before .before .before .before .before .before .before .before .before .before .before .before .least3 .ensures .0), lent-rest _ (s .args .p .dest) 32768 (s .good .0 .1 .1 .1 .1 .1 .1 .0 .1 .0 .1) (s .args .n .dest) (c .before .before .before .before .before .before .before .before .before .before .before .before .before .before .before .before .least4 .ensures .0), lent-rest _ (s .args .p .marks) 2048 (s .good .0 .1 .1 .1 .1 .1 .1 .1 .0 .1 .0 .1) (s .args .n .marks) (c .before .before .before .before .before .before .before .before .before .before .before .before .before .before .least5 .ensures .0), lent-rest _ (s .args .p .«src_a») 4096 (s .good .0 .1 .1 .1 .1 .1 .1 .1 .1 .0 .1 .0 .1) (s .args .n .«src_a») (c .before .before .before .before .before .before .before .before .before .before .before .before .least6 .ensures .0), lent-rest _ (s .args .p .«src_b») 4096 (s .good .0 .1 .1 .1 .1 .1 .1 .1 .1 .1 .0 .1 .0 .1) (s .args .n .«src_b») (c .before .before .before .before .before .before .before .before .before .before .least7 .ensures .0), ← lent-start _ (s .args .p .settings) 384 (s .good .0 .1 .1 .1 .0 .1 .0 .1) (s .args .n .settings) (c .before .before .before .before .before .before .before .before .before .before .before .before .before .before .before .before .before .before .before .before .before .before .least .ensures .0), ← lent-start _ (s .args .p .gprs) 384 (s .good .0 .1 .1 .1 .1 .0 .1 .0 .1) (s .args .n .gprs) (c .before .before .before .before .before .before .before .before .before .before .before .before .before .before .before .before .before .before .before .before .least2 .ensures .0), ← lent-start _ (s .args .p .config) 1024 (s .good .0 .1 .1 .1 .1 .1 .0 .1 .0 .1) (s .args .n .config) (c .before .before .before .before .before .before .before .before .before .before .before .before .before .before .before .before .before .before .least3 .ensures .0), ← lent-start _ (s .args .p .dest) 32768 (s .good .0 .1 .1 .1 .1 .1 .1 .0 .1 .0 .1) (s .args .n .dest) (c .before .before .before .before .before .before .before .before .before .before .before .before .before .before .before .before .least4 .ensures .0), ← lent-start _ (s .args .p .marks) 2048 (s .good .0 .1 .1 .1 .1 .1 .1 .1 .0 .1 .0 .1) (s .args .n .marks) (c .before .before .before .before .before .before .before .before .before .before .before .before .before .before .least5 .ensures .0), ← lent-start _ (s .args .p .«src_a») 4096 (s .good .0 .1 .1 .1 .1 .1 .1 .1 .1 .0 .1 .0 .1) (s .args .n .«src_a») (c .before .before .before .before .before .before .before .before .before .before .before .before .least6 .ensures .0), ← lent-start _ (s .args .p .«src_b») 4096 (s .good .0 .1 .1 .1 .1 .1 .1 .1 .1 .1 .0 .1 .0 .1) (s .args .n .«src_b») (c .before .before .before .before .before .before .before .before .before .before .least7 .ensures .0)) (ap (loadedIn (s .args .p) (s .args .n)) (c .before .before .before .before .before .before .before .before .load .ensures))
 
 pub load-spec : {M : Type 1} → statement M
 load-spec =

@@ -19,7 +19,7 @@ abbrev μ-loop : tie.MeasureT-loop
 μ-loop control settings gprs config dest marks src-a src-b out₀ times saved₀ left₀ out saved left = left
 
 loop-again : tie.Need-loop-again Inv-loop μ-loop
-loop-again c = (search needs, onward _ _ _ _ _ _ (c .before .before .before .before .loop-test .taken) (c .before .before .save .ensures .0) (c .before .before .before .before .before .loop .inv .1))
+loop-again c = (search needs, onward _ _ _ _ _ _ (c .before .before .before .before .loop-test .taken) (c .before .before .save .ensures) (c .before .before .before .before .before .loop .inv .1))
 
 returns : tie.Need-returns Inv-loop μ-loop
 returns c = all-done _ _ _ _ _ (omega arith) (c .before .loop .inv .1)

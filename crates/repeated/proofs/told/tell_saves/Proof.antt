@@ -1,6 +1,9 @@
 use mathlib.Core.Path.{_≡_, ap, _∙_}
 use Rattle.machine.specs.Machine.{Machine}
-use Rattle.image.specs.Calls.{Saving, saving}
+use Prim.Native.Nat.{ℕ}
+use mathlib.Core.List.{List}
+use Rattle.answers.specs.Answers.{Call}
+use Rattle.image.specs.Calls.{saving}
 use Rattle.whole_seeded.specs.Seeded.{seedMachine}
 use Rattle.repeated.specs.Repeats.{savesOf}
 use Rattle.repeated.specs.Told.{savesTold}
@@ -13,7 +16,7 @@ returns c =
     let a = c .before .before .before .before .before .before .before .before .before .before .before .args in
     let r = c .before .before .before .before .before .before .before .repeat-saves in
     let e : saving (r .result) (r .last .1 .0) ≡ savesOf (seedMachine (a .seed)) (a .times) (a .room .now) = r .ensures ∙ ap (λ (m : Machine). savesOf m (a .times) (a .room .now)) (c .before .before .before .before .before .before .before .before .before .machine-of .ensures) in
-    (rw (c .before .save-number .ensures, c .checksum .ensures, c .before .before .add-bytes .ensures, c .before .before .before .before .start .ensures) (ap savesTold e), ap (λ (s : Saving). s .out) e)
+    (rw (c .before .save-number .ensures, c .checksum .ensures, c .before .before .add-bytes .ensures, c .before .before .before .before .start .ensures) (ap savesTold e), ap (λ (s : Call (List ℕ)). s .after) e)
 
 pub tell-saves-spec : {M : Type 1} → statement M
 tell-saves-spec =
