@@ -13,7 +13,7 @@ import zlib
 from collections import Counter, namedtuple
 
 import bench
-from lent_machines import AT_END, PAST, UNSET, WAIT, set_control
+from lent_machines import AT_END, PAST, UNSET, WAIT, any_number, cell_at, set_cell, set_control
 from machine import Machine
 from seeded import Draws, control_from, flat, rows
 
@@ -190,14 +190,13 @@ class Bench:
         spoiled = []
         for store, place in ((self.machine.src_a, bad // 256 % 4096), (self.machine.src_b, bad // 1048576)):
             if place < 2048:
-                cells_of_row, column = store[place // 1024][place // ROW % 64], place % ROW
-                spoiled.append((cells_of_row, column, cells_of_row[column]))
-                cells_of_row[column] = over
+                spoiled.append((store, place, cell_at(store, place)))
+                set_cell(store, place, over)
         with Lent(self.machine, ('src_a', 'src_b'), lengths) as machine:
             answer = bench.write_source(machine, file, row, lent_cells(cells, lengths[2]))
         text = line(answer, self.source_bytes())
-        for cells_of_row, column, cell in spoiled:
-            cells_of_row[column] = cell
+        for kept in spoiled:  # put back where they stood, into a row that was just written too
+            set_cell(*kept)
         return text
 
     def show(self, lengths, file, bank, row, seed, left, right, number):
@@ -282,30 +281,48 @@ ROUNDS = 60
 CALLS = 190  # of a round
 
 
+def round_of(draws, calls):
+    """The stores filled anew, and so many calls."""
+    dest = DestCases(draws)
+    yield Case(FILL, 0, 0, 0, 0, draws.word())
+    for _ in range(calls):
+        kind = draws.draw() % 16
+        if kind < 3:
+            yield gpr_case(draws)
+        elif kind < 9:
+            yield dest.case()
+        elif kind < 12:
+            yield source_case(draws)
+        else:
+            yield show_case(draws)
+
+
 def all_cases():
     draws = Draws(30000)
-    dest = DestCases(draws)
     for _ in range(ROUNDS):
-        yield Case(FILL, 0, 0, 0, 0, draws.word())
-        dest.last = None
-        for _ in range(CALLS):
-            kind = draws.draw() % 16
-            if kind < 3:
-                yield gpr_case(draws)
-            elif kind < 9:
-                yield dest.case()
-            elif kind < 12:
-                yield source_case(draws)
-            else:
-                yield show_case(draws)
+        yield from round_of(draws, CALLS)
+
+
+def any_cases(draws, calls):
+    """A round that is not among those; at times an argument is any number, and so is one of the control part that is set."""
+    for case in round_of(draws, calls):
+        if draws.draw() % 8 == 0:
+            case = case._replace(**{chosen(draws, ('first', 'second', 'third')): draws.word()})
+        if case.call == WRITE_SOURCE and draws.draw() % 3 == 0:
+            case = case._replace(number=any_number(draws, WAIT))
+        yield case
+
+
+def input_and_output(cases):
+    """What the program reads of cases, and what it must write."""
+    cases, program = list(cases), Bench()
+    return (b''.join(struct.pack('<11I', *case[:-1], *case.number) for case in cases),
+            ''.join(map(program.line_of, cases)).encode())
 
 
 def files():
-    cases, program = list(all_cases()), Bench()
-    return {
-        f'{FOLDER}/stdin': b''.join(struct.pack('<11I', *case[:-1], *case.number) for case in cases),
-        f'{FOLDER}/stdout': ''.join(map(program.line_of, cases)).encode(),
-    }
+    stdin, stdout = input_and_output(all_cases())
+    return {f'{FOLDER}/stdin': stdin, f'{FOLDER}/stdout': stdout}
 
 
 def tally(stdout):

@@ -129,20 +129,35 @@ def boundary_cases(draws):
     yield Case(draws.word(), draws.draw(), Mix(NEVER, ALL, ALL, 0), 128, 128, STREAM_LIMIT + 1)
 
 
+def with_rooms(draws, cases):
+    """Cases with the rooms around what each needs."""
+    for case in cases:
+        for room in rooms_around(draws, case.needed()):
+            yield case, min(room, MOST_ROOM)
+
+
 def all_cases():
     """Cases with their rooms."""
     draws = Draws(20000)
-    for case in short_cases(draws):
-        for room in rooms_around(draws, case.needed()):
-            yield case, min(room, MOST_ROOM)
+    yield from with_rooms(draws, short_cases(draws))
     for case in boundary_cases(draws):
         for room in (NEEDED_LIMIT - 1, NEEDED_LIMIT, MOST_ROOM):
             yield case, room
 
 
+def any_cases(draws, count):
+    """So many cases that are not among those, with their rooms."""
+    few, over = [0, 1, 1, 2, 2, 3, 3, 5, 9, 127], [128, 0xFFFFFFFF]
+    makes = (short_case(draws, 2 * few + over, 2 * few + over, chosen(draws, [9] * 20 + [0, 8, 10])) for _ in range(count))
+    return with_rooms(draws, makes)
+
+
+def input_and_output(cases):
+    """What the program reads of cases with their rooms, and what it must write."""
+    made = [(case.packed(room), case.line(room)) for case, room in cases]
+    return b''.join(packed for packed, _ in made), ''.join(line for _, line in made).encode()
+
+
 def files():
-    made = [(case.packed(room), case.line(room)) for case, room in all_cases()]
-    return {
-        'crates/expander_vectors/stdin': b''.join(packed for packed, _ in made),
-        'crates/expander_vectors/stdout': ''.join(line for _, line in made).encode(),
-    }
+    stdin, stdout = input_and_output(all_cases())
+    return {'crates/expander_vectors/stdin': stdin, 'crates/expander_vectors/stdout': stdout}

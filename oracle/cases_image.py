@@ -14,7 +14,7 @@ from copy import copy
 import seeded
 from image import SIZE, image_of, load, save
 from lent_machines import CELL_A, CELL_B, MUTEX, OWNER, POINTER, RIGHT_LENGTHS, SEMAPHORE, STALL, UNSET, WAIT, WRONG_LENGTHS, \
-    Made, digest, lent, machine_of, packed, semaphore, stall, wait, whole
+    Made, any_made, digest, lent, machine_of, packed, semaphore, stall, wait, whole
 from machine import fresh
 
 FOLDER = 'crates/image_vectors'
@@ -242,14 +242,29 @@ def groups():
     return [*damages(draws), *saves(), *overs(draws), *others(draws)]
 
 
-def files():
+def any_group(draws):
+    """A group that is not among those: any machine saved, its image damaged in all ways, and any machine loaded over."""
+    saved, over = any_made(draws), any_made(draws)
+    image = image_of(whole(saved.seed))
+    loads = few(image, draws) + any_bytes(image, draws, 1) + cell_bytes(image, draws, 2) + bad_and_cut(image, draws, 6)
+    room = (SIZE, ROOMS[draws.draw() % len(ROOMS)], draws.word() % (OUT_MOST + 1))[draws.draw() % 3]
+    return Group(saved, room, over, loads)
+
+
+def input_and_output(made):
+    """What the program reads of groups, and what it must write: first it saves a fresh machine."""
     out = bytearray([UNWRITTEN]) * OUT_MOST
     save(fresh(), out)
     stdin, stdout = [], [f'w {zlib.adler32(out)}']
-    for group in groups():
+    for group in made:
         stdin.append(group.data())
         stdout += group.lines()
-    return {f'{FOLDER}/stdin': b''.join(stdin), f'{FOLDER}/stdout': ''.join(line + '\n' for line in stdout).encode()}
+    return b''.join(stdin), ''.join(line + '\n' for line in stdout).encode()
+
+
+def files():
+    stdin, stdout = input_and_output(groups())
+    return {f'{FOLDER}/stdin': stdin, f'{FOLDER}/stdout': stdout}
 
 
 def tally(stdout):

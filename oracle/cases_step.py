@@ -12,7 +12,7 @@ import assemble as asm
 import seeded
 from bits import bits
 from decode import TABLE
-from lent_machines import AT_END, PAST, RIGHT_LENGTHS, UNSET, WRONG_LENGTHS, Made, digest, lent, machine_of, packed
+from lent_machines import AT_END, PAST, RIGHT_LENGTHS, UNSET, WRONG_LENGTHS, Made, any_made, digest, lent, machine_of, packed
 from machine import well_formed
 from waits import holds
 from words import offer, step
@@ -74,6 +74,10 @@ class Group:
         if self.plain and not well_formed(self.machine) or self.sum != digest(self.machine):
             raise AssertionError(self.made)
         return self
+
+    def data(self):
+        cases = (struct.pack('<II', *case) for case in self.cases)
+        return b''.join((packed(self.made), struct.pack('<I', len(self.cases)), *cases))
 
 
 # Words from fields.
@@ -186,13 +190,16 @@ def likely(group, draws):
         group.case(thread, word)
 
 
+NO_THREADS = (3, 4, 255, 256, 65536, 0x80000000, 0xFFFFFFFF)
+
+
 def noise(group, draws):
     """Random words, random opcodes, and threads that there are not."""
     for opcode in range(256):
         group.case(draws.draw() % 3, opcode << 24 | drawn(draws, 24))
     for _ in range(40):
         group.case(draws.draw() % 3, draws.word())
-    for thread in (3, 4, 255, 256, 65536, 0x80000000, 0xFFFFFFFF):
+    for thread in NO_THREADS:
         for word in (asm.nop(), 0xFF000000, asm.wrcfg(index=256), likely_word(draws)):
             group.case(thread, word)
 
@@ -290,12 +297,17 @@ def spoiled():
         yield Made(77, *PAST[turn * 5 % len(PAST)], *length)
 
 
+# Scenes, and how often each is in the plan; of ZEROACC each once.
+SCENES = {likely: 16, noise: 4, waits: 28, semaphores: 3, mutexes: 3, banks: 6}
+ZEROACC = [zeroacc(flags, wide, half) for flags in range(4) for wide in (0, 1) for half in (0, 1)]
+PLAYED = 150  # edge words of a group
+
+
 def plan(draws):
     """Machines and what their groups play."""
     edges = shuffled(edge_words(draws) + edge_words(draws) + edge_words(draws), draws)
-    scenes = [play(edges[at:at + 150]) for at in range(0, len(edges), 150)]
-    scenes += [likely] * 16 + [noise] * 4 + [waits] * 28 + [semaphores] * 3 + [mutexes] * 3 + [banks] * 6
-    scenes += [zeroacc(flags, wide, half) for flags in range(4) for wide in (0, 1) for half in (0, 1)]
+    scenes = [play(edges[at:at + PLAYED]) for at in range(0, len(edges), PLAYED)]
+    scenes += [scene for scene, times in SCENES.items() for _ in range(times)] + ZEROACC
     return [(Made(1000 + at), scene) for at, scene in enumerate(scenes)] + [(made, checked) for made in spoiled()]
 
 
@@ -308,13 +320,43 @@ def groups():
         yield group.check()
 
 
-def files():
+# Groups that are not in the plan.
+
+def some_edges(group, draws):
+    play(shuffled(edge_words(draws), draws)[:PLAYED])(group, draws)
+
+
+def some_zeroacc(group, draws):
+    ZEROACC[draws.draw() % len(ZEROACC)](group, draws)
+
+
+def any_words(group, draws):
+    """Words of every sort by any thread, at times one that there is not."""
+    for _ in range(20):
+        thread = NO_THREADS[draws.draw() % len(NO_THREADS)] if draws.draw() % 8 == 0 else draws.draw() % 3
+        group.case(thread, draws.word() if draws.draw() % 8 == 0 else likely_word(draws))
+
+
+def any_group(draws):
+    """Any machine, and any scene on it; few words where all may be refused for the machine."""
+    group, scenes = Group(any_made(draws)), (*SCENES, some_edges, some_zeroacc, any_words)
+    scene = scenes[draws.draw() % len(scenes)] if group.plain else any_words
+    scene(group, draws)
+    return group.check()
+
+
+def input_and_output(played):
+    """What the program reads of groups, and what it must write."""
     stdin, stdout = [], []
-    for group in groups():
-        stdin.append(packed(group.made) + struct.pack('<I', len(group.cases)))
-        stdin += [struct.pack('<II', *case) for case in group.cases]
+    for group in played:
+        stdin.append(group.data())
         stdout += group.lines
-    return {f'{FOLDER}/stdin': b''.join(stdin), f'{FOLDER}/stdout': ''.join(line + '\n' for line in stdout).encode()}
+    return b''.join(stdin), ''.join(line + '\n' for line in stdout).encode()
+
+
+def files():
+    stdin, stdout = input_and_output(groups())
+    return {f'{FOLDER}/stdin': stdin, f'{FOLDER}/stdout': stdout}
 
 
 def tally(stdout):

@@ -41,7 +41,7 @@ def wait_numbers(wait):
         return NO_WAIT, 0, 0
     if wait[0] == 'stall':
         return STALL_WAIT, wait[1], wait[2]
-    return SEMAPHORE_WAIT, wait[1], (wait[2] << 2) | wait[3]
+    return SEMAPHORE_WAIT, wait[1], (wait[2] << 2) + wait[3]  # a sum also where a digest is of a condition out of range
 
 
 def wait_bytes(wait):

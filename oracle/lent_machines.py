@@ -49,11 +49,15 @@ def set_control(machine, kind, place, value):
         machine.waits[place] = ('semaphore', value & 0xFFFF, value >> 16 & 255, value >> 24)
 
 
+def cell_at(banks, place):
+    return banks[place // 1024][place // 16 % 64][place % 16]
+
+
 def set_cell(banks, place, value):
     banks[place // 1024][place // 16 % 64][place % 16] = value
 
 
-@lru_cache(maxsize=None)
+@lru_cache(maxsize=64)  # not more, since ./crosscheck has another seed for each machine
 def whole(seed):
     return seeded.machine(seed)
 
@@ -126,3 +130,32 @@ AT_END = [(limit.kind, limit.place, limit.past - limit.one) for limit in LIMITS]
 
 RIGHT_LENGTHS = [(part, SIZES[name]) for part, name in enumerate(PARTS, 1)]
 WRONG_LENGTHS = [(part, length) for part, size in RIGHT_LENGTHS for length in (0, 1, size - 1, size + 1, ROOM * size)]
+
+# How many there are of each kind, and the bits that the other side holds of a value.
+PLACES = {MUTEX: 8, SEMAPHORE: 8, OWNER: 4, POINTER: 4, STALL: 3, WAIT: 3, CELL_A: 2048, CELL_B: 2048}
+HELD = {MUTEX: 8, SEMAPHORE: 16, OWNER: 8, POINTER: 8}
+
+
+def any_number(draws, last=CELL_B):
+    """A number of any kind up to the last, at any place: at the end of its range, just past it, or any value at all."""
+    among = [limit for limit in LIMITS if limit.kind <= last]
+    limit = among[draws.draw() % len(among)]
+    anything = draws.word() & (1 << HELD.get(limit.kind, 32)) - 1
+    value = (limit.past - limit.one, limit.past, anything)[draws.draw() % 3]
+    return limit.kind, draws.draw() % PLACES[limit.kind], value
+
+
+def any_length(draws):
+    """A part, and a length that may be right."""
+    listed = RIGHT_LENGTHS + WRONG_LENGTHS
+    part, length = listed[draws.draw() % len(listed)]
+    if draws.draw() % 3 == 0:
+        length = draws.word() % (ROOM * SIZES[PARTS[part - 1]] + 1)
+    return part, length
+
+
+def any_made(draws):
+    """A machine of any seed; at times a number is set in it, or a part lent at a length of its own."""
+    number = any_number(draws) if draws.draw() % 4 == 0 else UNSET
+    length = any_length(draws) if draws.draw() % 6 == 0 else (0, 0)
+    return Made(draws.word(), *number, *length)

@@ -102,6 +102,25 @@ class Cases(unittest.TestCase):
                 if call in (cases.READ_16, cases.READ_32, cases.WRITE_16, cases.WRITE_32) and line.startswith('done')}
         self.assertEqual(len(done), 4 * 2 * 4)
 
+    def test_a_spoiled_cell_is_put_back_into_a_written_row(self):
+        seed = next(seed for seed in range(100) if self.unpackers_own(seed))
+        program = cases.Bench()
+        bank = self.unpackers_own(seed) - 1
+        place = bank * 1024 + 5 * 16 + 3
+        old = program.machine.src_a[bank][5][3]
+        bad = cases.NOWHERE_CELL | place << 8 | cases.NOWHERE << 20
+        self.assertIn('done', program.line_of(cases.Case(cases.WRITE_SOURCE, 0, 0, 5, 9, 7, seed, bad)))
+        cells = cases.seventeen(Draws(7).cell)[:16]
+        cells[3] = old
+        self.assertEqual(program.machine.src_a[bank][5], cells)
+
+    def unpackers_own(self, seed):
+        """One more than SrcA's bank at the unpack pointer of a seed's control part, if it is the Unpackers', else 0."""
+        machine = Machine()
+        control_from(Draws(seed), machine)
+        bank = machine.unpack_bank(0)
+        return 0 if machine.owner(0, bank) else bank + 1
+
     def test_shown_rows_are_whole_or_empty(self):
         shown = {(numbers[0] <= 1 and numbers[1] <= 1 and numbers[2] <= 63 and lengths & 15 == 0, line.split()[1])
                  for (call, lengths, *numbers), line in zip(self.cases, self.lines) if call == cases.SHOW}

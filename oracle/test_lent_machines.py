@@ -3,9 +3,10 @@
 import unittest
 
 from image import SIZE, load, save
-from lent_machines import AT_END, CELL_B, LIMITS, MUTEX, PARTS, PAST, RIGHT_LENGTHS, SIZES, STALL, UNSET, WAIT, WRONG_LENGTHS, Made, \
-    count, lent, machine_of, packed, resized, set_control, wait
+from lent_machines import AT_END, CELL_B, HELD, LIMITS, MUTEX, PARTS, PAST, PLACES, RIGHT_LENGTHS, ROOM, SIZES, STALL, UNSET, WAIT, \
+    WRONG_LENGTHS, Made, any_length, any_number, cell_at, count, lent, machine_of, packed, resized, set_cell, set_control, wait
 from machine import lent_refusal, well_formed
+from seeded import Draws
 from testing import busy
 
 
@@ -36,6 +37,24 @@ class Machines(unittest.TestCase):
             self.assertEqual(machine.semaphores[7], [15, 15])
             machine.semaphores[7][0] = 0
 
+    def test_cells(self):
+        machine = busy(3)
+        set_cell(machine.src_a, 1024 + 2 * 16 + 3, 7)
+        self.assertEqual(machine.src_a[1][2][3], 7)
+        self.assertEqual(cell_at(machine.src_a, 1024 + 2 * 16 + 3), 7)
+
+    def test_any_number(self):
+        draws = Draws(1)
+        for last in (CELL_B, WAIT):
+            numbers = [any_number(draws, last) for _ in range(400)]
+            self.assertEqual({kind for kind, _, _ in numbers}, set(range(1, last + 1)))
+            for kind, place, value in numbers:
+                self.assertLess(place, PLACES[kind])
+                self.assertEqual(value >> HELD.get(kind, 32), 0)
+            for some in (MUTEX, WAIT):
+                made = [Made(5, *number) for number in numbers if number[0] == some]
+                self.assertEqual({well_formed(machine_of(each)) for each in made}, {True, False})
+
     def test_packed(self):
         self.assertEqual(packed(Made(1, 2, 3, 4, 5, 0x0A0B0C0D)).hex(' ', 4),
                          '01000000 02000000 03000000 04000000 05000000 0d0c0b0a')
@@ -58,6 +77,15 @@ class Lengths(unittest.TestCase):
                              [length if name == PARTS[part - 1] else SIZES[name] for name in PARTS])
             self.assertEqual(lent_refusal(other), 4)
         self.assertEqual(machine, busy(5))
+
+    def test_any_length(self):
+        draws = Draws(2)
+        lengths = [any_length(draws) for _ in range(400)]
+        self.assertEqual({part for part, _ in lengths}, set(range(1, len(PARTS) + 1)))
+        self.assertTrue(all(length <= ROOM * SIZES[PARTS[part - 1]] for part, length in lengths))
+        for listed in (RIGHT_LENGTHS, WRONG_LENGTHS):
+            self.assertTrue(set(listed) & set(lengths))
+        self.assertTrue(set(lengths) - {*RIGHT_LENGTHS, *WRONG_LENGTHS})
 
     def test_no_more_than_there_is(self):
         self.assertEqual(count(lent(busy(5), Made(5, *UNSET, 1, 0xFFFFFFFF)).settings), 384)
