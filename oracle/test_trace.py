@@ -1,4 +1,4 @@
-"""Each place that docs/TRACE.md, docs/ARCHITECTURE.md and README.md name is there: a file declares the names cited from it."""
+"""Each place that README.md and the documents name is there: a file declares the names cited from it."""
 
 import ast
 import re
@@ -10,6 +10,7 @@ TOP = Path(__file__).resolve().parent.parent
 CRATE_FILE = r'[a-z_0-9]+/(?:specs|src|proofs)/\w+'
 FILE = CRATE_FILE + r'|oracle/\w+'
 NAMES = r'((?:`[^`]+`(?:, )?)+)'
+PROSE = ('README.md', 'docs/ARCHITECTURE.md', 'docs/DECISIONS.md', 'docs/COSTS.md', 'docs/TRUST.md')
 
 
 def in_rattle(text):
@@ -180,7 +181,7 @@ class Declared(unittest.TestCase):
 
 class Prose(unittest.TestCase):
     def test_names_beside_a_file_are_declared_there(self):
-        for document in ('README.md', 'docs/ARCHITECTURE.md', 'docs/DECISIONS.md', 'docs/COSTS.md'):
+        for document in PROSE:
             self.assertEqual(missing_in_prose((TOP / document).read_text()), [], document)
 
     def test_a_wrong_name_is_seen(self):
@@ -191,7 +192,7 @@ class Prose(unittest.TestCase):
 
 class Files(unittest.TestCase):
     def test_cited_files_are_there(self):
-        for document in ('README.md', 'docs/ARCHITECTURE.md', 'docs/DECISIONS.md'):
+        for document in PROSE:
             text = (TOP / document).read_text()
             cited = re.findall(r'`([a-z_]+/(?:src|specs)/\w+\.(?:rt|antt))`', text)
             self.assertEqual([path for path in cited if not (TOP / 'crates' / path).is_file()], [], document)
