@@ -1,11 +1,11 @@
 -- Laws of a list written over from a place on.
-use Prim.Native.Nat.{ℕ, _+_, _≤_, _<_}
+use Prim.Native.Nat.{ℕ, suc, _+_, _-_, _≤_, _<_}
 use mathlib.Core.Path.{_≡_, sym, _∙_}
 use mathlib.Core.List.{List, [], _∷_, _++_, append-assoc, append-nil}
 use native.Mathlib.Nat.{add-assoc, add-zero}
 use native.Mathlib.Numerals.{add-one}
 use native.Mathlib.Omega.{arith}
-use lib.ListN.{length, take, drop, set, length-take, length-drop, length-append, take-append-drop, drop-of-length-le}
+use lib.ListN.{length, take, drop, set, length-take, length-drop, length-append, take-append-drop, drop-of-length-le, replicate}
 use lib.Seq.{take-at, drop-at, drop-drop, set-split}
 use Rattle.bits.specs.Overwrite.{over, Wrote}
 
@@ -43,6 +43,19 @@ unfolding over
 over-whole l vs h =
     let e : drop (0 + length vs) l ≡ [] = drop-of-length-le l {i = 0 + length vs} (omega arith) in
     rw e (append-nil vs)
+
+-- the same value so many times, written one by one: one time more, and none left
+pub fill-step : {A : Type 0} (l : List A) (k n i : ℕ) (v : A) → k + n ≤ length l → i < n →
+    over (set l (k + i) v) (k + (i + 1)) (replicate (n - (i + 1)) v) ≡ over l (k + i) (replicate (n - i) v)
+fill-step l k n i v h m =
+    let e : n - i ≡ suc (n - (i + 1)) = omega arith in
+    let p : k + (i + 1) ≡ k + i + length (v ∷ []) = omega arith in
+    rw (over-set l (k + i) v (omega arith), e, p) (over-over l (k + i) (v ∷ []) (replicate (n - (i + 1)) v) (omega arith))
+
+pub fill-done : {A : Type 0} (l : List A) (k n i : ℕ) (v : A) → n ≤ i → over l (k + i) (replicate (n - i) v) ≡ l
+fill-done l k n i v h =
+    let e : n - i ≡ 0 = omega arith in
+    rw e (over-none l (k + i))
 
 -- two writes in a row are one
 pub wrote-then : {A : Type 0} {l m n : List A} {k j i : ℕ} {a b : List A} → Wrote l k a m j → Wrote m j b n i → k ≤ length l → Wrote l k (a ++ b) n i

@@ -1,3 +1,4 @@
 pub mod Bounds
 pub mod Limits
 pub mod Examples
+pub mod Views

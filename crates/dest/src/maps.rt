@@ -1,5 +1,4 @@
-// The maps from view rows to storage rows. They have a meaning at every number, also past the view: the rule leaves bits
-// from 6 on of a 16-bit view row where they are, and takes no bit over 8 of a 32-bit view row.
+// The maps from view rows to storage rows.
 ghost use mathlib.Core.Path.{_≡_};
 ghost use Rattle.dest.specs.Maps.{remapped, swizzled, afterRemap, afterSwizzle, storage16, high32, low32};
 use crate::flags::Flags;

@@ -2,11 +2,11 @@
 ghost use mathlib.Core.Path.{_≡_};
 ghost use Rattle.dest.specs.Rows.{row16Of, row32Of};
 
-// A row of the 16-bit view.
-pub struct View16Row(pub u16);
+// A row of the 16-bit view. Only this crate can set its number, so that elsewhere a row of a view is within it: it comes of `new`.
+pub struct View16Row(pub(crate) u16);
 
-// A row of the 32-bit view.
-pub struct View32Row(pub u16);
+// A row of the 32-bit view, by `new` too.
+pub struct View32Row(pub(crate) u16);
 
 // A row of storage, 0 to 1,023.
 pub struct StorageRow(pub u16);

@@ -19,13 +19,12 @@ use Rattle.word_rules.specs.InRange.{PlaceInView}
 use Rattle.effects.specs.Marks.{clearRow, clearRows, LiesIn, RowsCleared, firstRow, rowCount}
 
 -- one turn of a loop that clears, and its end
-pub clear-step : (wide : Bool) (f : Flags) (first n i : ℕ) (marks : List Bool) → i < n →
-    clearRows wide f (first + i) (n - i) marks ≡ clearRows wide f (first + (i + 1)) (n - (i + 1)) (clearRow wide f (first + i) marks)
+pub clear-step : (wide : Bool) (f : Flags) (row end : ℕ) (marks : List Bool) → row < end →
+    clearRows wide f row (end - row) marks ≡ clearRows wide f (row + 1) (end - (row + 1)) (clearRow wide f row marks)
 unfolding clearRows
-clear-step wide f first n i marks h =
-    let e : n - i ≡ suc (n - (i + 1)) = omega arith in
-    let g : first + i + 1 ≡ first + (i + 1) = omega arith in
-    rw (e, ← g)
+clear-step wide f row end marks h =
+    let e : end - row ≡ suc (end - (row + 1)) = omega arith in
+    rw e
 
 pub clear-none : (wide : Bool) (f : Flags) (first n : ℕ) (marks : List Bool) → n ≡ 0 → clearRows wide f first n marks ≡ marks
 unfolding clearRows

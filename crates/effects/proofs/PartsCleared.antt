@@ -127,17 +127,20 @@ filled from (suc m) marks h =
     ∙ rw (over-set marks from false (omega arith)) (over-over marks from (false ∷ []) (replicate m false) (omega arith))
 
 module _ (bank : ℕ) (config : List ℕ) (marks : List Bool) {mode : ℕ} {wide : Bool} {place : ℕ} (p : PlaceInView mode wide place) (long : length marks ≡ markCount) where
-  -- the same rows of storage are cleared by the map of no flag
-  pub part-cleared : 2 ≤ mode → afterZeroAcc bank mode wide place config marks ≡ clearRows false unmapped (firstRow mode false place) (rowCount mode false) marks
-  part-cleared h =
+  -- half of either view, and all of it, is a run of storage rows
+  pub part-filled : 2 ≤ mode → firstRow mode false place + rowCount mode false ≤ markCount →
+      afterZeroAcc bank mode wide place config marks ≡ over marks (firstRow mode false place) (replicate (rowCount mode false) false)
+  part-filled h room =
       let z = ne-eqb mode 0 (λ e. omega arith) in
       let o = ne-eqb mode 1 (λ e. omega arith) in
-      rw (z, o) (run-cleared wide (flagsIn bank config) _ _ _ _ (part-same (eqb mode 2) wide (flagsIn bank config) place (λ e. p .half (eqb-true mode 2 e))) marks long)
+      let same = part-same (eqb mode 2) wide (flagsIn bank config) place (λ e. p .half (eqb-true mode 2 e)) in
+      let plain = filled (firstRow mode false place) (rowCount mode false) marks (omega arith) in
+      rw (z, o) (run-cleared wide (flagsIn bank config) _ _ _ _ same marks long) ∙ plain
 
   pub mode-2-clears-half : mode ≡ 2 → afterZeroAcc bank mode wide place config marks ≡ over marks (512 * place) (replicate 512 false)
-  mode-2-clears-half e = part-cleared (omega arith) ∙ rw e (filled (512 * place) 512 marks (omega (arith, p .half e)))
+  mode-2-clears-half e = part-filled (omega arith) (rw e (omega (arith, p .half e))) ∙ rw e
 
   pub mode-3-clears-all : mode ≡ 3 → afterZeroAcc bank mode wide place config marks ≡ replicate markCount false
   mode-3-clears-all e =
-      part-cleared (omega arith)
-      ∙ rw e (filled 0 markCount marks (omega arith) ∙ over-whole marks (replicate markCount false) (rw length-replicate (omega arith)))
+      part-filled (omega arith) (rw e (omega arith))
+      ∙ rw e (over-whole marks (replicate markCount false) (rw length-replicate (omega arith)))

@@ -14,6 +14,8 @@ use dest::flags::flags_of;
 use dest::maps::high_row;
 use dest::maps::low_row;
 use dest::maps::storage_row;
+use dest::rows::Row16;
+use dest::rows::Row32;
 use dest::rows::View16Row;
 use dest::rows::View32Row;
 use effects::places::config_place;
@@ -70,10 +72,24 @@ fn clear_row(marks: &mut [bool], flags: Flags, wide: bool, row: u16)
     ensures { λ _. ⌜ now (marks .exit) ≡ clearRow wide flags row (now (marks .entry)) ⌝ }
 {
     if wide {
-        clear_row32(marks, flags, View32Row(row));
-    } else {
-        clear_row16(marks, flags, View16Row(row));
+        match View32Row::new(row as u32) {
+            Row32::In32(there) => clear_row32(marks, flags, there),
+            Row32::Past32 => {}
+        }
+        return;
     }
+    match View16Row::new(row as u32) {
+        Row16::In16(there) => clear_row16(marks, flags, there),
+        Row16::Past16 => {}
+    }
+}
+
+// A number that is known to be within a limit: by this the compiler knows it too.
+fn capped(n: u16, most: u16) -> u16
+    requires { ⌜ n ≤ most ⌝ }
+    ensures { λ r. ⌜ r ≡ n ⌝ }
+{
+    if n < most { n } else { most }
 }
 
 // So many view rows cleared, from the first on.
@@ -81,9 +97,24 @@ fn clear_rows(marks: &mut [bool], flags: Flags, wide: bool, first: u16, count: u
     requires { ⌜ (length (now marks) ≡ 1024) × (first + count ≤ viewRows wide) ⌝ }
     ensures { λ _. ⌜ now (marks .exit) ≡ clearRows wide flags first count (now (marks .entry)) ⌝ }
 {
-    let mut i: u16 = 0;
-    while i < count {
-        clear_row(marks, flags, wide, first + i);
+    let end = capped(first + count, view_rows(wide));
+    let mut row = first;
+    while row < end {
+        clear_row(marks, flags, wide, row);
+        row += 1;
+    }
+}
+
+// So many marks cleared, from the first on.
+fn clear_marks(marks: &mut [bool], first: u16, count: u16)
+    requires { ⌜ first + count ≤ length (now marks) ⌝ }
+    ensures { λ _. ⌜ now (marks .exit) ≡ over (now (marks .entry)) first (replicate count false) ⌝ }
+{
+    let from = first as usize;
+    let n = count as usize;
+    let mut i: usize = 0;
+    while i < n {
+        marks[from + i] = false;
         i += 1;
     }
 }
@@ -110,12 +141,8 @@ pub(crate) fn zero_marks(
         clear_rows(marks, flags, wide, first, count);
         return;
     }
-    // half of either view is that half of storage, whatever the maps, and all is all: by the map of no flag it is a fill
-    let none = Flags {
-        remap: false,
-        swizzle: false,
-    };
+    // half of either view is that half of storage, whatever the maps, and all is all
     let first = first_row(mode, false, place);
     let count = row_count(mode, false);
-    clear_rows(marks, none, false, first, count);
+    clear_marks(marks, first, count);
 }
