@@ -2,6 +2,10 @@
 ghost use Rattle.step_rules.specs.Kept.{KeepsFormed};
 ghost use Rattle.step_rules.specs.Unchanged.{Unchanged};
 ghost use Rattle.run_rules.specs.Isolation.{Isolated};
+ghost use Rattle.run_rules.specs.Chained.{Chained};
+ghost use Rattle.run_rules.specs.Observed.{Observed};
+ghost use Rattle.run_rules.specs.OfferedAgain.{OfferedAgain};
+ghost use Rattle.run_rules.specs.Ended.{Ended};
 ghost use Rattle.run_rules.specs.Kept.{RunKeeps};
 ghost use Rattle.run_rules.specs.StuckForGood.{StuckForGood};
 ghost use Rattle.dest_cover.specs.Cover.{ViewsCover};
@@ -21,6 +25,13 @@ pub fn promises()
     // a word that stalls or is refused changes nothing; a word keeps a well-formed machine well formed
     ensures unchanged { λ _. ⌜ Unchanged ⌝ }
     ensures kept { λ _. ⌜ KeepsFormed ⌝ }
+    // each turn of a run goes on from what the one before left, and the machine after it is what a run of so many turns hands back
+    ensures chained { λ _. ⌜ Chained ⌝ }
+    ensures observed { λ _. ⌜ Observed ⌝ }
+    // a turn moves its own thread's position alone, past a passed word; a stalled word is offered again
+    ensures again { λ _. ⌜ OfferedAgain ⌝ }
+    // before each turn nothing ended the run; what is so at its end, for each answer
+    ensures ended { λ _. ⌜ Ended ⌝ }
     // a turn without a passed word and a refused call change nothing; a run keeps a well-formed machine well formed
     ensures keeps { λ _. ⌜ RunKeeps ⌝ }
     // a stuck run is stuck for good

@@ -1,5 +1,5 @@
--- What saving and loading promise together (document 01: "Images load to the state they were saved from, and each
--- accepted image saves to its own bytes").
+-- What saving and loading promise together (condition 2): "Saved images load to the state they were saved from, and each accepted
+-- image saves to its own bytes."
 use Prim.Native.Nat.{ℕ, _*_, _/_, _%_, _<_, _≤_}
 use mathlib.Core.Path.{_≡_}
 use mathlib.Core.Bool.{true, false}

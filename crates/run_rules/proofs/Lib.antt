@@ -7,3 +7,7 @@ pub mod Waiting
 pub mod Settled
 pub mod Stuck
 pub mod Kept
+pub mod Chained
+pub mod Observed
+pub mod Ended
+pub mod OfferedAgain

@@ -32,6 +32,15 @@ module _ (s : Streams) (m : Machine) (c k : Cursor) (o : Offered) (eo : o ≡ ne
   unfolding turnOf
   turn-offers w x e ex ek = rw (ek, ex, ← eo, e)
 
+-- the cursor after a turn is its outcome's
+pub turn-moved : (s : Streams) (m : Machine) (c : Cursor) → turnOf s m c .cursor ≡ movedOf (turnOf s m c .outcome) c
+unfolding turnOf
+turn-moved s m c = go (nextWord s c)
+  where
+    go : (o : Offered) → byWord m c o .cursor ≡ movedOf (byWord m c o .outcome) c
+    go NoWord = refl
+    go (NextWord w) = refl
+
 following-lt : (t : ℕ) → following t < 3
 unfolding following
 following-lt t = go (ltb t 2) refl

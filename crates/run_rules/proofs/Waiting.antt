@@ -19,7 +19,7 @@ use Rattle.run_rules.specs.Turn.{byWord, turnOf}
 use Rattle.run_rules.specs.StuckForGood.{waiting}
 
 -- after three threads it is the first one's turn again
-threads-round : (t : ℕ) → t < 3 → following (following (following t)) ≡ t
+pub threads-round : (t : ℕ) → t < 3 → following (following (following t)) ≡ t
 unfolding following
 threads-round zero h = refl
 threads-round (suc zero) h = refl

@@ -1,4 +1,5 @@
--- Condition 3: the course of a run does not depend on what registers, Config words, Dest and source cells hold.
+-- Condition 3: the course of a run does not depend on what registers, Config words, Dest and source cells hold. The comments in
+-- quotation marks are the customer's condition, whole.
 use Prim.Native.Nat.{ℕ}
 use mathlib.Core.Path.{_≡_}
 use mathlib.Core.Bool.{true}
@@ -14,27 +15,29 @@ use Rattle.run_rules.specs.Run.{Run, runOf}
 
 -- two turns
 pub record TurnsAlike (t u : Turn) : Type 0 where
-  -- "each idle, passed, stalled or refused alike with the same numbers"
+  -- "Each of those turns is idle, passes, stalls or refuses alike in both, with the same numbers."
   pub outcome : t .outcome ≡ u .outcome
-  -- "the machines still agree after each turn"
+  -- "After each of them, and at the end, the two machines still agree on everything in that list."
   pub agree : Agree (t .after) (u .after)
   -- and so do the positions and the next thread
   pub cursor : t .cursor ≡ u .cursor
 
 -- two runs
 pub record RunsAlike (p q : Run) : Type 0 where
-  -- "both take equally many turns"
+  -- "Both take equally many turns."
   pub count : length (p .turns) ≡ length (q .turns)
   -- the first turns of both are alike, the second, and so on to the last
   pub each : Forall₂ TurnsAlike (p .turns) (q .turns)
-  -- "and both end alike"
-  pub answer : p .answer ≡ q .answer
+  -- "and at the end"
   pub agree : Agree (p .after) (q .after)
+  -- "Both end with equal answers, turn counts, positions and next thread."
+  pub answer : p .answer ≡ q .answer
   pub cursor : p .cursor ≡ q .cursor
 
--- "Take two well-formed machines that agree on thread settings, mutexes, semaphores, waits, bank owners and bank pointers,
--- whatever their registers, Config words, Dest and source cells hold. On the same streams, cursor and budget": all of them, also
--- those that the run refuses
+-- "Take any two well-formed machines that agree on thread settings, mutexes, semaphores, waits, bank owners and bank pointers,
+-- whatever either holds in registers, configuration words, Dest and source cells. Run both by the rules of condition 2 on the same
+-- three streams, whatever words are in them, from the same positions and next thread, with the same budget, large or small."
+-- All streams, cursors and budgets are meant, also those that the run refuses.
 abbrev pub Isolated : Type 0
 Isolated =
     (s : Streams) (c : Cursor) (budget : ℕ) (m n : Machine) →

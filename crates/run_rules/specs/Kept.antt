@@ -13,7 +13,7 @@ use Rattle.run_rules.specs.Turn.{turnOf}
 use Rattle.run_rules.specs.Run.{stop, runOf}
 use Rattle.run_rules.specs.StuckForGood.{SamePositions}
 
--- a turn without a passed word: "a stall changes nothing and the same word is offered again"
+-- a turn without a passed word: "a stall changes nothing"
 pub record QuietTurn (s : Streams) (m : Machine) (c : Cursor) : Type 0 where
   pub after : turnOf s m c .after ≡ m
   pub positions : SamePositions (turnOf s m c .cursor) c

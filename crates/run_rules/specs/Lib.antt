@@ -5,3 +5,7 @@ pub mod Ready
 pub mod Isolation
 pub mod StuckForGood
 pub mod Kept
+pub mod Chained
+pub mod Observed
+pub mod Ended
+pub mod OfferedAgain

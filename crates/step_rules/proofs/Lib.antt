@@ -3,3 +3,4 @@ pub mod Alike
 pub mod Kept
 pub mod Unchanged
 pub mod Offering
+pub mod Refusing

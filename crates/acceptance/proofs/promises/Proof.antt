@@ -1,6 +1,10 @@
 use Rattle.run_rules.proofs.Stuck.{stuck-for-good}
 use Rattle.run_rules.proofs.Isolation.{isolated}
 use Rattle.run_rules.proofs.Kept.{run-keeps}
+use Rattle.run_rules.proofs.Chained.{chained}
+use Rattle.run_rules.proofs.Observed.{observed}
+use Rattle.run_rules.proofs.Ended.{ended}
+use Rattle.run_rules.proofs.OfferedAgain.{offered-again}
 use Rattle.step_rules.proofs.Kept.{keeps-formed}
 use Rattle.step_rules.proofs.Unchanged.{unchanged}
 use Rattle.dest_cover.proofs.Cover.{views-cover}
@@ -14,7 +18,7 @@ use Rattle.acceptance.proofs.promises.Statement.{statement}
 use Rattle.acceptance.proofs.promises.Tie as tie
 
 returns : tie.Need-returns
-returns c = (isolated, (all-worked, (unchanged, (keeps-formed, (run-keeps, (stuck-for-good, (views-cover, (image-facts, (round-trips, (gpr-promises, (dest-promises, (source-promises, cut))))))))))))
+returns c = (isolated, (all-worked, (unchanged, (keeps-formed, (chained, (observed, (offered-again, (ended, (run-keeps, (stuck-for-good, (views-cover, (image-facts, (round-trips, (gpr-promises, (dest-promises, (source-promises, cut))))))))))))))))
 
 pub promises-spec : {M : Type 1} → statement M
 promises-spec = tie.close (tie.spec returns)
