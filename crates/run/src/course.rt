@@ -75,8 +75,8 @@ pub(crate) fn take_turns(
         c = t.cursor;
         turns += 1;
         let e = refused_word(o);
-        if let Halt::Ends(answer) = e {
-            return ended(answer, turns, k, c);
+        if let Halt::Ends(refused) = e {
+            return ended(refused, turns, k, c);
         }
         quiet = quiet_after(o, quiet);
     }
