@@ -2,14 +2,15 @@
 
 A case is seven words of 4 bytes: seed; high mask, and the number of nine words lent from bit 16 on; the mix, a byte each
 (see `word`); m0; m1; words of the stream; room. The nine words, the stream and what the output holds before the call are
-drawn from the seed, in this order, as crates/expander_vectors draws them.
+drawn from the seed, in this order, as crates/expander_vectors draws them. Before the lines of the cases stands `fresh N`, the high
+mask of a fresh expander.
 """
 
 import struct
 import zlib
 from itertools import accumulate, takewhile
 
-from expander import NEEDED_LIMIT, STREAM_LIMIT, expand, expanded
+from expander import FRESH_HIGH, NEEDED_LIMIT, STREAM_LIMIT, expand, expanded
 from seeded import Draws
 
 MOST_ROOM = 65600
@@ -155,7 +156,7 @@ def any_cases(draws, count):
 def input_and_output(cases):
     """What the program reads of cases with their rooms, and what it must write."""
     made = [(case.packed(room), case.line(room)) for case, room in cases]
-    return b''.join(packed for packed, _ in made), ''.join(line for _, line in made).encode()
+    return b''.join(packed for packed, _ in made), ''.join((f'fresh {FRESH_HIGH}\n', *(line for _, line in made))).encode()
 
 
 def files():

@@ -6,6 +6,7 @@ MOP, MOP_CFG = 0x01, 0x03
 STREAM_LIMIT = 65536
 NEEDED_LIMIT = 65536
 ROUNDS_LIMIT = 127
+FRESH_HIGH = 0  # the high mask that a first call takes
 
 
 def template_0(m, count, mask):

@@ -3,9 +3,11 @@
 import unittest
 
 import cases_bench
+import cases_decode
 import cases_expander
 import cases_image
 import cases_step
+from decode import TABLE
 from seeded import Draws
 
 
@@ -27,7 +29,12 @@ class Fresh(unittest.TestCase):
     def test_expander(self):
         _, stdout = cases_expander.input_and_output(cases_expander.any_cases(Draws(1), 60))
         words = {' '.join(line.split()[:2 if line.startswith('refused') else 1]) for line in stdout.decode().splitlines()}
-        self.assertEqual(words, {'done', 'refused 4', 'refused 7', 'refused 8'})
+        self.assertEqual(words, {'fresh', 'done', 'refused 4', 'refused 7', 'refused 8'})
+
+    def test_decode(self):
+        _, stdout = cases_decode.input_and_output(cases_decode.any_words(Draws(1), 3000))
+        words = {' '.join(line.split()[:2 if line.startswith('refused') else 1]) for line in stdout.decode().splitlines()}
+        self.assertEqual(words, {'refused 2', 'refused 3', *(name for name, _, _ in TABLE.values())})
 
 
 if __name__ == '__main__':

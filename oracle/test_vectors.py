@@ -107,7 +107,7 @@ class EmulateCases(unittest.TestCase):
         self.assertGreaterEqual(answers[b'bad record'], 3500)
         for end in (b'end finished', b'end stuck', b'end budget', b'end refused'):
             self.assertGreaterEqual(answers[end], 100, end)
-        self.assertLess(max(map(len, inputs)), 12317)
+        self.assertEqual(max(map(len, inputs)), 12317)  # the longest sound input and one byte
 
 
 class RunCases(unittest.TestCase):

@@ -1,5 +1,6 @@
 // Runs the expander on the cases of standard input and writes a line for each: the answer, the high mask handed back, and a
-// checksum of the whole output. oracle/cases_expander.py makes the cases and the lines that are expected.
+// checksum of the whole output. Before them it writes the mask of a fresh expander. oracle/cases_expander.py makes the cases and
+// the lines that are expected.
 mod case;
 mod draws;
 
@@ -87,7 +88,14 @@ fn all_cases(nine: &mut [u32], stream: &mut [u32], out: &mut [u32]) {
     }
 }
 
+fn print_fresh(carried: Carried) {
+    io::write_all(STDOUT_FILENO, b"fresh ");
+    io::print_decimal(STDOUT_FILENO, carried.high_mask as u64);
+    io::write_all(STDOUT_FILENO, b"\n");
+}
+
 fn main() {
+    print_fresh(expander::fresh_carried());
     let mut nine = [0u32; 16];
     let mut stream = [0u32; 65600];
     let mut out = [0u32; 65600];
