@@ -213,6 +213,15 @@ class Files(unittest.TestCase):
             for entry in entries:
                 self.assertRegex(source, r'pub fn ' + entry.split('::')[-1] + r'\b', entry)
 
+    def test_definitions_are_there(self):
+        """Each definition and theorem of that table, and of the conditions above it, is declared in some specs/."""
+        specs = set().union(*(in_antt(path.read_text()) for path in (TOP / 'crates').glob('*/specs/*.antt')))
+        text = (TOP / 'README.md').read_text()
+        cited = [name for row in re.findall(r'(?m)^\| `\w+::.*\| ([^|]*) \|$', text) for name in names_in(row)]
+        self.assertGreater(len(cited), 40)
+        cited += names_in(re.search(r'(?s)## The customer.*?(?=`docs/TRACE)', text)[0])
+        self.assertEqual([name for name in cited if re.fullmatch(r'\w+', name) and name not in specs | {'requires'}], [])
+
 
 if __name__ == '__main__':
     unittest.main()
