@@ -15,15 +15,19 @@ use Rattle.gpr_access.specs.Promises.{GprPromises}
 use Rattle.answers.proofs.Checks.{checked-answer, checked-after, whole-found, provided-alike}
 use Rattle.gpr_access.proofs.Facts.{gpr-before, gpr-facts}
 
+-- an accepted write sets the GPR's own place
+written : (g : List ℕ) (thread register value : ℕ) → _≡_ {A = Told (Unit {0})} (accepted tt) (gprCheck (length g) thread register (accepted tt)) → writeGprOf g thread register value .after ≡ set g (gprPlace thread (gpr register)) value
+unfolding writeGprOf
+written g thread register value e = rw (← e)
+
 read-back : (g : List ℕ) (thread register value : ℕ) → writeGprOf g thread register value .answer ≡ accepted tt → readGprOf (writeGprOf g thread register value .after) thread register ≡ accepted value
 unfolding readGprOf writeGprOf
 read-back g thread register value h =
     let p = gprPlace thread (gpr register) in
-    let l = set g p value in
     let whole : Told (Unit {0}) = gprCheck (length g) thread register (accepted tt) in
-    let e : accepted tt ≡ whole = sym h ∙ checked-answer whole g l in
+    let e : accepted tt ≡ whole = sym h ∙ checked-answer whole g _ in
     let f = gpr-facts (length g) thread register (accepted tt) tt e in
-    rw (← e, length-set g p value, getD-set-same g p value 0 (omega arith))
+    rw (written g thread register value e, length-set g p value, getD-set-same g p value 0 (omega arith))
     (sym (whole-found (accepted value) (gpr-before tt (accepted value) (length g) thread register) e))
 
 -- two GPRs that stand at one place are one
