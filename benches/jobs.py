@@ -4,7 +4,7 @@ A job is kind, repetitions, seed, limit and three counts of words, then the word
 1 run     three streams, the limit is the budget; the seed's stores (0: zero) with a fresh control part
 2 save    the seed's machine (0: fresh) into an output of as many bytes as the limit says
 3 load    the image of the seed's machine
-4 expand  the nine words, then the stream; the limit is the room, the seed the high mask
+4 expand  the nine words, then the stream; the limit is the room, the seed the high mask, and the slots are fresh
 """
 
 import struct
@@ -14,6 +14,7 @@ from pathlib import Path
 sys.path.insert(0, str(Path(__file__).resolve().parent.parent / 'oracle'))
 
 import assemble as asm  # noqa: E402
+from expander import FRESH, expand  # noqa: E402
 from seeded import Draws  # noqa: E402
 
 RUN, SAVE, LOAD, EXPAND = 1, 2, 3, 4
@@ -162,3 +163,29 @@ def expand_stream(words=65536, seed=3):
             return stream + [asm.nop()] * (words - needed)
         stream.append(word)
         needed += gives
+
+
+# m5 plays slots 0 to 3 in each inner round of template 1; m3 to m8 are what template 0 gives.
+NINE_WITH_REPLAY = [6, 10] + [0x02000000 + i for i in range(2, 5)] + [asm.replay(0, 4, 0, 0)] + [0x02000000 + i for i in range(6, 9)]
+
+
+def replay_part(draws):
+    """A loop as kernel writers record it: words and a MOP fill the slots, which are then played; MOPs and other words beside it.
+    The load is over before the first play, since a MOP of template 0 gives at least 32 words here."""
+    start, length, shown = draws.draw() % 32, 1 + draws.draw() % 32, draws.draw() % 2
+    loaded = [asm.nop() | draws.draw() for _ in range(draws.draw() % length)]
+    loaded += [asm.mop(0, 7 + draws.draw() % 24, draws.draw()), asm.mop_cfg(draws.draw())]
+    plays = [asm.replay(start, length, 0, 0)] * (4 + draws.draw() % 8)
+    beside = [asm.mop(1, 0, 0)] * (draws.draw() % 3) + [asm.nop() | draws.draw() for _ in range(draws.draw() % 8)]
+    return [asm.replay(start, length, shown, 1)] + loaded + plays + beside
+
+
+def replay_stream(nine, words=65536, seed=3):
+    """Such loops, and words that fill up what they need to so many."""
+    draws, stream, needed, carried = Draws(seed), [], 0, FRESH
+    while True:
+        part = replay_part(draws)
+        answer, after = expand(carried, nine, part, [0] * words)
+        if needed + answer[1] > words:
+            return stream + [asm.nop()] * (words - needed)
+        stream, needed, carried = stream + part, needed + answer[1], after

@@ -75,20 +75,20 @@ fn loads(job: &Job) -> String {
 
 fn expansions(job: &Job) -> String {
     let mut out = vec![0u32; job.limit as usize];
-    let mut high = job.seed as u16;
+    let mut carried = expander::Carried::with_mask(job.seed as u16);
     let mut answer = (0, 0);
     for _ in 0..job.times {
-        let done = expander::expand(black_box(&job.parts[0]), high, black_box(&job.parts[1]), black_box(&mut out));
+        let done = expander::expand(black_box(&job.parts[0]), &carried, black_box(&job.parts[1]), black_box(&mut out));
         answer = match done {
-            Ok((count, carried)) => {
-                high = carried;
+            Ok((count, after)) => {
+                carried = after;
                 (0, count)
             }
             Err(number) => (number, 0),
         };
     }
     let bytes: Vec<u8> = out.iter().flat_map(|w| w.to_le_bytes()).collect();
-    format!("expand {} {} {} {}", answer.0, answer.1, high, seeded::checksum(&bytes))
+    format!("expand {} {} {} {}", answer.0, answer.1, carried.high, seeded::checksum(&bytes))
 }
 
 fn main() {

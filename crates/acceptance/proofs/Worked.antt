@@ -34,9 +34,14 @@ use Rattle.effects.specs.Settings.{bankOf}
 use Rattle.effects.specs.Sources.{srcAAfter, srcBAfter}
 use Rattle.step_rules.specs.Step.{passOf, machineAfter, stepped, stepOf}
 use Rattle.expander.specs.declared.Carried.{Carried}
-use Rattle.expander.specs.Stream.{Emission, emission, streamOf, freshCarried}
-use Rattle.expander.specs.Call.{call, badLength, badRounds, shortOutput, doneWith, expandOf, anyTemplate1}
+use Rattle.replay_buffer.specs.Replay.{anyReplay}
+use Rattle.expander.specs.State.{carry, freshCarried}
+use Rattle.expander.specs.Stream.{Emission, emission, streamOf}
+use Rattle.expander.specs.Call.{call, badLength, anyTemplate1, overRounds, shortOutput, doneWith, expansion, expandOf}
+use Rattle.expander.specs.Promises.{mopCallOf}
 use Rattle.expander.proofs.Examples.{examples}
+use Rattle.expander.proofs.Plain.{stream-plain}
+use Rattle.expander.proofs.Whole.{plain-streams}
 use Rattle.dest_access.specs.DestRows.{DestStore, bankCheck, readRow32Of}
 use Rattle.acceptance.specs.Worked.{Ready, Worked, leavesGprs, leavesConfig, place, gprIn, wordPlace, wordIn}
 use Rattle.acceptance.proofs.Passing.{refusing, scalar-passes, config-passes}
@@ -109,34 +114,45 @@ copies-four m t r =
     fourth : (a n : ℕ) → a + (n + 3) ≡ a + n + 1 + 1 + 1
     fourth a n = omega arith
 
--- a call whose lengths and rounds are in order and whose output has room
-expanded : (m : List ℕ) (c : Carried) (l out : List ℕ) (e : Emission) → streamOf m c l ≡ e → badLength m l ≡ false → badRounds m l ≡ false →
-    shortOutput out (length (e .words)) ≡ false → expandOf m c l out ≡ doneWith e out
-unfolding expandOf
-expanded m c l out e s p q r = rw (p, q, s, r)
+-- a call without a REPLAY whose lengths and rounds are in order and whose output has room
+expanded : (m : List ℕ) (c : Carried) (l out : List ℕ) (e : Emission) → streamOf m (c .«high_mask») l ≡ e → anyReplay m ≡ false → anyReplay l ≡ false →
+    badLength m l ≡ false → (overRounds m && anyTemplate1 l) ≡ false → shortOutput out (length (e .words)) ≡ false →
+    expandOf m c l out ≡ doneWith (expansion (e .words) (carry (e .high) (c .slots))) out
+unfolding mopCallOf
+expanded m c l out e s n k p q r = plain-streams m c l out (stream-plain m n (c .«high_mask») l k) ∙ rw (p, q, s, r)
 
 room : (out : List ℕ) (n : ℕ) → n ≤ length out → n ≤ 65536 → shortOutput out n ≡ false
 room out n h k = rw (le-ltb (length out) n h, le-ltb 65536 n k)
 
-and-no : (b : Bool) → (b && false) ≡ false
-and-no true = refl
-and-no false = refl
+mask-alone : anyReplay (0x01020002 ∷ []) ≡ false
+unfolding anyReplay
+mask-alone = refl
+
+rounds-alone : anyReplay (0x01800000 ∷ []) ≡ false
+unfolding anyReplay
+rounds-alone = refl
+
+-- a template 0 MOP has no rounds to be over
+none-here : (over : Bool) → (over && anyTemplate1 (0x01020002 ∷ [])) ≡ false
+unfolding anyTemplate1
+none-here true = refl
+none-here false = refl
 
 mask-template : (m0 m2 m3 m4 m5 m6 m7 m8 : ℕ) (out : List ℕ) → 6 ≤ length out →
+    anyReplay (m0 ∷ 1 ∷ m2 ∷ m3 ∷ m4 ∷ m5 ∷ m6 ∷ m7 ∷ m8 ∷ []) ≡ false →
     expandOf (m0 ∷ 1 ∷ m2 ∷ m3 ∷ m4 ∷ m5 ∷ m6 ∷ m7 ∷ m8 ∷ []) freshCarried (0x01020002 ∷ []) out ≡
     call (accepted 6) freshCarried (over out 0 (m3 ∷ m2 ∷ m7 ∷ m8 ∷ m3 ∷ m2 ∷ []))
-unfolding anyTemplate1
-mask-template m0 m2 m3 m4 m5 m6 m7 m8 out h =
-    expanded (m0 ∷ 1 ∷ m2 ∷ m3 ∷ m4 ∷ m5 ∷ m6 ∷ m7 ∷ m8 ∷ []) freshCarried (0x01020002 ∷ []) out (emission (m3 ∷ m2 ∷ m7 ∷ m8 ∷ m3 ∷ m2 ∷ []) freshCarried)
-    (examples .M10 m0 m2 m3 m4 m5 m6 m7 m8) refl (and-no (ltb 127 m0 || false)) (room out 6 h (omega arith))
+mask-template m0 m2 m3 m4 m5 m6 m7 m8 out h n =
+    expanded (m0 ∷ 1 ∷ m2 ∷ m3 ∷ m4 ∷ m5 ∷ m6 ∷ m7 ∷ m8 ∷ []) freshCarried (0x01020002 ∷ []) out (emission (m3 ∷ m2 ∷ m7 ∷ m8 ∷ m3 ∷ m2 ∷ []) 0)
+    (examples .M10 m0 m2 m3 m4 m5 m6 m7 m8) n mask-alone refl (none-here (overRounds (m0 ∷ 1 ∷ m2 ∷ m3 ∷ m4 ∷ m5 ∷ m6 ∷ m7 ∷ m8 ∷ []))) (room out 6 h (omega arith))
 
 round-template : (m2 m3 m4 m5 m6 m7 m8 : ℕ) (c : Carried) (out : List ℕ) → 14 ≤ length out →
+    anyReplay (2 ∷ 2 ∷ m2 ∷ m3 ∷ m4 ∷ m5 ∷ m6 ∷ m7 ∷ m8 ∷ []) ≡ false →
     expandOf (2 ∷ 2 ∷ m2 ∷ m3 ∷ m4 ∷ m5 ∷ m6 ∷ m7 ∷ m8 ∷ []) c (0x01800000 ∷ []) out ≡
     call (accepted 14) c (over out 0 (m2 ∷ m5 ∷ m6 ∷ m5 ∷ m8 ∷ m3 ∷ m4 ∷ m2 ∷ m5 ∷ m6 ∷ m5 ∷ m7 ∷ m3 ∷ m4 ∷ []))
-unfolding anyTemplate1
-round-template m2 m3 m4 m5 m6 m7 m8 c out h =
-    expanded (2 ∷ 2 ∷ m2 ∷ m3 ∷ m4 ∷ m5 ∷ m6 ∷ m7 ∷ m8 ∷ []) c (0x01800000 ∷ []) out (emission (m2 ∷ m5 ∷ m6 ∷ m5 ∷ m8 ∷ m3 ∷ m4 ∷ m2 ∷ m5 ∷ m6 ∷ m5 ∷ m7 ∷ m3 ∷ m4 ∷ []) c)
-    (examples .M11 m2 m3 m4 m5 m6 m7 m8 c) refl refl (room out 14 h (omega arith))
+round-template m2 m3 m4 m5 m6 m7 m8 c out h n =
+    expanded (2 ∷ 2 ∷ m2 ∷ m3 ∷ m4 ∷ m5 ∷ m6 ∷ m7 ∷ m8 ∷ []) c (0x01800000 ∷ []) out (emission (m2 ∷ m5 ∷ m6 ∷ m5 ∷ m8 ∷ m3 ∷ m4 ∷ m2 ∷ m5 ∷ m6 ∷ m5 ∷ m7 ∷ m3 ∷ m4 ∷ []) (c .«high_mask»))
+    (examples .M11 m2 m3 m4 m5 m6 m7 m8 (c .«high_mask»)) n rounds-alone refl refl (room out 14 h (omega arith))
 
 past-view : (config : List ℕ) (s : DestStore) (bank : ℕ) (out : List ℕ) →
     length config ≡ configCount → length (s .dest) ≡ destCount → length (s .marks) ≡ markCount → bank ≤ 1 →

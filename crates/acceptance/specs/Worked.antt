@@ -20,7 +20,8 @@ use Rattle.effects.specs.Places.{configPlace}
 use Rattle.effects.specs.Settings.{bankOf}
 use Rattle.step_rules.specs.Step.{Step, stepped, stepOf}
 use Rattle.expander.specs.declared.Carried.{Carried}
-use Rattle.expander.specs.Stream.{freshCarried}
+use Rattle.replay_buffer.specs.Replay.{anyReplay}
+use Rattle.expander.specs.State.{freshCarried}
 use Rattle.expander.specs.Call.{expandOf}
 use Rattle.expander.specs.Call as expanding
 use Rattle.dest_access.specs.DestRows.{DestStore, readRow32Of}
@@ -89,11 +90,13 @@ pub record Worked : Type 0 where
   pub m8-refused : (config : List ℕ) (s : DestStore) (bank : ℕ) (out : List ℕ) →
       length config ≡ configCount → length (s .dest) ≡ destCount → length (s .marks) ≡ markCount → bank ≤ 1 →
       readRow32Of config s bank 512 out ≡ call (refused 11 []) out
-  -- 0x01020002, high mask 0, m1 = 1: m3 m2 m7 m8 m3 m2
+  -- 0x01020002, high mask 0, m1 = 1: m3 m2 m7 m8 m3 m2, for nine words without a REPLAY
   pub m10 : (m0 m2 m3 m4 m5 m6 m7 m8 : ℕ) (out : List ℕ) → 6 ≤ length out →
+      anyReplay (m0 ∷ 1 ∷ m2 ∷ m3 ∷ m4 ∷ m5 ∷ m6 ∷ m7 ∷ m8 ∷ []) ≡ false →
       expandOf (m0 ∷ 1 ∷ m2 ∷ m3 ∷ m4 ∷ m5 ∷ m6 ∷ m7 ∷ m8 ∷ []) freshCarried (0x01020002 ∷ []) out ≡
       expanding.call (accepted 6) freshCarried (over out 0 (m3 ∷ m2 ∷ m7 ∷ m8 ∷ m3 ∷ m2 ∷ []))
-  -- template 1, 2 by 2: m2 m5 m6 m5 m8 m3 m4 m2 m5 m6 m5 m7 m3 m4
+  -- template 1, 2 by 2: m2 m5 m6 m5 m8 m3 m4 m2 m5 m6 m5 m7 m3 m4, for nine words without a REPLAY
   pub m11 : (m2 m3 m4 m5 m6 m7 m8 : ℕ) (c : Carried) (out : List ℕ) → 14 ≤ length out →
+      anyReplay (2 ∷ 2 ∷ m2 ∷ m3 ∷ m4 ∷ m5 ∷ m6 ∷ m7 ∷ m8 ∷ []) ≡ false →
       expandOf (2 ∷ 2 ∷ m2 ∷ m3 ∷ m4 ∷ m5 ∷ m6 ∷ m7 ∷ m8 ∷ []) c (0x01800000 ∷ []) out ≡
       expanding.call (accepted 14) c (over out 0 (m2 ∷ m5 ∷ m6 ∷ m5 ∷ m8 ∷ m3 ∷ m4 ∷ m2 ∷ m5 ∷ m6 ∷ m5 ∷ m7 ∷ m3 ∷ m4 ∷ []))

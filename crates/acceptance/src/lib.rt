@@ -13,7 +13,8 @@ ghost use Rattle.image.specs.Promises.{ImageFacts, RoundTrips};
 ghost use Rattle.gpr_access.specs.Promises.{GprPromises};
 ghost use Rattle.dest_access.specs.Promises.{DestPromises};
 ghost use Rattle.source_access.specs.Promises.{SourcePromises};
-ghost use Rattle.expander.specs.Promises.{CutAnywhere};
+ghost use Rattle.expander.specs.Promises.{CutAnywhere, Stages, PlainStreams, SlotsHandedBack, FreshExpander};
+ghost use Rattle.replay_buffer.specs.Promises.{LoadsPlayBack};
 ghost use Rattle.acceptance.specs.Worked.{Worked};
 
 // Each clause is a theorem over the definitions that the contracts of the entries cite.
@@ -45,6 +46,13 @@ pub fn promises()
     ensures gprs { λ _. ⌜ GprPromises ⌝ }
     ensures rows { λ _. ⌜ DestPromises ⌝ }
     ensures sources { λ _. ⌜ SourcePromises ⌝ }
-    // a stream expands alike however it is cut
+    // what leaves the MOP stage is alike however a stream is cut
     ensures cut { λ _. ⌜ CutAnywhere ⌝ }
+    // the words of an accepted call are the replay stage of what leaves the MOP stage; without a REPLAY document 01's, and the slots stay
+    ensures stages { λ _. ⌜ Stages ⌝ }
+    ensures plain { λ _. ⌜ PlainStreams ⌝ }
+    // what a load took a play gives back; 32 slots stay 32; fresh ones hold NOP
+    ensures back { λ _. ⌜ LoadsPlayBack ⌝ }
+    ensures slots { λ _. ⌜ SlotsHandedBack ⌝ }
+    ensures fresh { λ _. ⌜ FreshExpander ⌝ }
 {}

@@ -1,17 +1,20 @@
 -- What a call comes to in each case.
 use Prim.Native.Nat.{ℕ, _≤_, _<_, min}
-use mathlib.Core.Bool.{Bool, true, false}
-use mathlib.Core.List.{List}
-use mathlib.Core.Path.{_≡_, refl}
+use mathlib.Core.Bool.{Bool, true, false, cond, _&&_}
+use mathlib.Core.List.{List, []}
+use mathlib.Core.Path.{_≡_, refl, sym, ap, _∙_}
 use native.Mathlib.Omega.{arith}
 use lib.Dec.{ltb}
 use lib.ListN.{length}
 use borrow.Author.Tests.{eq-eqb, ne-eqb, lt-ltb, le-ltb, ltb-false}
-use Rattle.expander.specs.Call.{badRounds, neededMost, shortOutput, refusedBy, doneWith, expandOf}
-use Rattle.expander.specs.Counts.{streamCount}
+use Rattle.answers.specs.Answers.{Told, accepted, refused}
+use Rattle.replay_buffer.specs.Replay.{Played, buffer, playWords}
+use Rattle.replay_buffer.specs.Counts.{countAll}
+use Rattle.replay_buffer.specs.declared.load.Load.the-variants.{NoLoad}
+use Rattle.replay_buffer.proofs.Folds.{play-long}
+use Rattle.expander.specs.Call.{Call, call, faultOf, neededMost, shortOutput, refusedBy, unlessRefused, doneWith, expansionOf, expandOf}
 use Rattle.expander.specs.Stream.{streamOf}
 use Rattle.expander.specs.declared.Carried.{Carried}
-use Rattle.expander.proofs.Folds.{stream-long}
 
 -- the lesser of the room and 65,536 decides
 short : (out : List ℕ) (needed : ℕ) → min (length out) neededMost < needed → shortOutput out needed ≡ true
@@ -24,6 +27,12 @@ short out needed h = go (ltb (length out) needed) refl
 ample : (out : List ℕ) (needed : ℕ) → needed ≤ min (length out) neededMost → shortOutput out needed ≡ false
 ample out needed h = rw (le-ltb (length out) needed (omega arith), le-ltb neededMost needed (omega arith))
 
+module _ (m : List ℕ) (c : Carried) (l : List ℕ) where
+  -- what the stream gives, counted
+  pub needed-long : length (expansionOf m c l .words) ≡ countAll NoLoad (streamOf m (c .«high_mask») l .words)
+  unfolding expansionOf
+  needed-long = play-long (buffer (c .slots) NoLoad) (streamOf m (c .«high_mask») l .words)
+
 module _ (m : List ℕ) (c : Carried) (l out : List ℕ) where
   pub not-nine : (length m ≡ 9 → ⊥) → expandOf m c l out ≡ refusedBy 4 c out
   unfolding expandOf
@@ -35,17 +44,15 @@ module _ (m : List ℕ) (c : Carried) (l out : List ℕ) where
     long-stream h = rw (eq-eqb (length m) 9 nine, lt-ltb 65536 (length l) h)
 
     module _ (fits : length l ≤ 65536) where
-      pub many-rounds : badRounds m l ≡ true → expandOf m c l out ≡ refusedBy 7 c out
+      pub faulty : (number : ℕ) (values : List ℕ) → refused number values ≡ faultOf m (c .«high_mask») NoLoad l → expandOf m c l out ≡ call (refused number values) c out
       unfolding expandOf
-      many-rounds h = rw (eq-eqb (length m) 9 nine, le-ltb 65536 (length l) fits, h)
+      faulty number values h = rw (eq-eqb (length m) 9 nine, le-ltb 65536 (length l) fits, ← h)
 
-      module _ (few : badRounds m l ≡ false) where
-        pub little-room : min (length out) neededMost < streamCount m l → expandOf m c l out ≡ refusedBy 8 c out
+      module _ (sound : accepted tt ≡ faultOf m (c .«high_mask») NoLoad l) where
+        pub little-room : min (length out) neededMost < length (expansionOf m c l .words) → expandOf m c l out ≡ refusedBy 8 c out
         unfolding expandOf
-        little-room h =
-            rw (eq-eqb (length m) 9 nine, le-ltb 65536 (length l) fits, few, short out (length (streamOf m c l .words)) (rw (stream-long m c l) h))
+        little-room h = rw (eq-eqb (length m) 9 nine, le-ltb 65536 (length l) fits, ← sound, short out (length (expansionOf m c l .words)) h)
 
-        pub enough-room : streamCount m l ≤ min (length out) neededMost → expandOf m c l out ≡ doneWith (streamOf m c l) out
+        pub enough-room : length (expansionOf m c l .words) ≤ min (length out) neededMost → expandOf m c l out ≡ doneWith (expansionOf m c l) out
         unfolding expandOf
-        enough-room h =
-            rw (eq-eqb (length m) 9 nine, le-ltb 65536 (length l) fits, few, ample out (length (streamOf m c l .words)) (rw (stream-long m c l) h))
+        enough-room h = rw (eq-eqb (length m) 9 nine, le-ltb 65536 (length l) fits, ← sound, ample out (length (expansionOf m c l .words)) h)

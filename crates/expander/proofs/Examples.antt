@@ -1,4 +1,4 @@
--- Document 01's worked examples, by computation.
+-- Document 01's worked examples, at the MOP stage, by computation.
 use mathlib.Core.Path.{refl}
 use Rattle.expander.specs.Promises.{ExpanderExamples}
 use Rattle.expander.specs.Stream.{mopWords, wordOf, streamOf}
@@ -6,4 +6,4 @@ use Rattle.templates.specs.Templates.{rounds, group, maskGroup, maskBit, lastWo
 
 pub examples : ExpanderExamples
 unfolding streamOf wordOf mopWords rounds group maskGroup maskBit lastWord innerRound outerRound
-examples = record { M10 = λ m0 m2 m3 m4 m5 m6 m7 m8. refl; M11 = λ m2 m3 m4 m5 m6 m7 m8 c. refl }
+examples = record { M10 = λ m0 m2 m3 m4 m5 m6 m7 m8. refl; M11 = λ m2 m3 m4 m5 m6 m7 m8 high. refl }

@@ -1,3 +1,7 @@
 pub mod Folds
+pub mod MopParts
+pub mod Plain
+pub mod Faults
 pub mod Examples
 pub mod Calls
+pub mod Whole

@@ -1,4 +1,4 @@
--- A whole call of the expander: its answer in document 01's numbers, what is carried, and the output afterwards.
+-- A whole call of the expander: its answer in the documents' numbers, what is carried, and the output afterwards.
 use Prim.Native.Nat.{ℕ}
 use mathlib.Core.Bool.{Bool, false, cond, not, _&&_, _||_}
 use mathlib.Core.List.{List, [], _∷_}
@@ -6,9 +6,13 @@ use lib.Dec.{eqb, ltb}
 use lib.ListN.{length}
 use Rattle.bits.specs.Field.{flag}
 use Rattle.bits.specs.Overwrite.{over}
-use Rattle.answers.specs.Answers.{Told, accepted, refused, refusal}
-use Rattle.expander.specs.Stream.{Emission, opcode, streamOf}
+use Rattle.answers.specs.Answers.{Told, accepted, refused, refusal, provided}
 use Rattle.templates.specs.Templates.{nth}
+use Rattle.replay_buffer.specs.Replay.{Buffer, buffer, playWords, anyObeyedBadly, loadsAfter}
+use Rattle.replay_buffer.specs.declared.load.Load.{Load}
+use Rattle.replay_buffer.specs.declared.load.Load.the-variants.{NoLoad}
+use Rattle.expander.specs.Stream.{opcode, wordOf, streamOf}
+use Rattle.expander.specs.State.{carry}
 use Rattle.expander.specs.declared.Answer.{Answer}
 use Rattle.expander.specs.declared.Answer.the-variants.{Done, Refused}
 use Rattle.expander.specs.declared.Carried.{Carried}
@@ -38,9 +42,36 @@ unfoldable pub anyTemplate1 : List ℕ → Bool
 anyTemplate1 [] = false
 anyTemplate1 (word ∷ l) = isTemplate1 word || anyTemplate1 l
 
--- a template 1 MOP in the stream with m0 or m1 over 127
-abbrev pub badRounds : List ℕ → List ℕ → Bool
-badRounds m l = (ltb 127 (nth m 0) || ltb 127 (nth m 1)) && anyTemplate1 l
+-- m0 or m1 over 127
+abbrev pub overRounds : List ℕ → Bool
+overRounds m = ltb 127 (nth m 0) || ltb 127 (nth m 1)
+
+-- refusal 7 of a word, and refusal 13 of a REPLAY that leaves the MOP stage: "in one pass with 7, whichever word comes first"
+unfoldable pub faultOf : List ℕ → ℕ → Load → List ℕ → Told (Unit {0})
+faultOf m high load [] = accepted tt
+faultOf m high load (word ∷ l) =
+    provided (not (overRounds m && isTemplate1 word)) 7
+    (provided (not (anyObeyedBadly load (wordOf m high word .words))) 13
+    (faultOf m (wordOf m high word .high) (loadsAfter load (wordOf m high word .words)) l))
+
+-- the words that a call writes, and what is carried after it
+pub record Expansion : Type 0 where
+  pub words : List ℕ
+  pub carried : Carried
+
+abbrev pub expansion : List ℕ → Carried → Expansion
+expansion l c = record { words = l; carried = c }
+
+-- "The end of a stream during a load ends the load with what came"
+abbrev pub ended : ℕ → Buffer → Carried
+ended high b = carry high (b .slots)
+
+-- the replay stage of what leaves the MOP stage
+unfoldable pub expansionOf : List ℕ → Carried → List ℕ → Expansion
+expansionOf m c l =
+    let mops = streamOf m (c .«high_mask») l in
+    let replayed = playWords (buffer (c .slots) NoLoad) (mops .words) in
+    expansion (replayed .words) (ended (mops .high) (replayed .buffer))
 
 -- the most words that a call may need
 abbrev pub neededMost : ℕ
@@ -54,13 +85,17 @@ shortOutput out needed = ltb (length out) needed || ltb neededMost needed
 abbrev pub refusedBy : ℕ → Carried → List ℕ → Call
 refusedBy number c out = call (refused number []) c out
 
+abbrev pub unlessRefused : Told (Unit {0}) → Carried → List ℕ → Call → Call
+unlessRefused (accepted x) c out rest = rest
+unlessRefused (refused number values) c out rest = call (refused number values) c out
+
 -- an accepted call fills the output from its start and leaves its rest
-abbrev pub doneWith : Emission → List ℕ → Call
+abbrev pub doneWith : Expansion → List ℕ → Call
 doneWith e out = call (accepted (length (e .words))) (e .carried) (over out 0 (e .words))
 
 unfoldable pub expandOf : List ℕ → Carried → List ℕ → List ℕ → Call
 expandOf m c l out =
     cond (badLength m l) (refusedBy 4 c out)
-    (cond (badRounds m l) (refusedBy 7 c out)
-    (cond (shortOutput out (length (streamOf m c l .words))) (refusedBy 8 c out)
-    (doneWith (streamOf m c l) out)))
+    (unlessRefused (faultOf m (c .«high_mask») NoLoad l) c out
+    (cond (shortOutput out (length (expansionOf m c l .words))) (refusedBy 8 c out)
+    (doneWith (expansionOf m c l) out)))

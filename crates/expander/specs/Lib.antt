@@ -1,4 +1,5 @@
 pub mod Stream
+pub mod State
+pub mod Parts
 pub mod Call
-pub mod Counts
 pub mod Promises

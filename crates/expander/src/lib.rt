@@ -1,20 +1,29 @@
-// The expander: a stream with MOP and MOP_CFG words becomes the words that they stand for (document 01, "Expander").
+// The expander: a stream with MOP, MOP_CFG and REPLAY words becomes the words that they stand for (document 01, "Expander"; document
+// 02, K1).
 ghost use mathlib.Core.Path.{_≡_};
-ghost use Prim.Native.Nat.{min};
+ghost use Prim.Native.Nat.{min, _≤_};
+ghost use lib.ListN.{length};
+ghost use Rattle.answers.specs.Answers.{accepted};
+ghost use Rattle.replay_buffer.specs.declared.load.Load.the-variants.{NoLoad};
 ghost use Rattle.expander.specs.declared.Answer.the-variants.{Refused};
-ghost use Rattle.expander.specs.Stream.{freshCarried};
-ghost use Rattle.expander.specs.Call.{told, call, expandOf};
-ghost use Rattle.expander.specs.Promises.{CutAnywhere, ExpanderExamples};
+ghost use Rattle.expander.specs.State.{freshCarried};
+ghost use Rattle.expander.specs.Call.{told, call, faultOf, expansionOf, doneWith, expandOf};
+ghost use Rattle.expander.specs.Promises.{CutAnywhere, ExpanderExamples, Stages, PlainStreams, SlotsHandedBack, FreshExpander};
+use answers::Access;
 use machine::refusal::Refusal;
 use machine::sizes::STREAM_WORDS;
+use replay_buffer::SLOTS;
 
 mod count;
-mod limits;
+mod mask;
+mod parts;
 mod stream;
+mod survey;
 
-// What a thread's expander carries from one call to the next.
+// What a thread's expander carries from one call to the next: the high mask, and the slots of the replay stage.
 pub struct Carried {
     pub high_mask: u16,
+    pub slots: [u32; SLOTS],
 }
 
 pub enum Answer {
@@ -34,7 +43,11 @@ const NEEDED_MOST: usize = 65536;
 pub fn fresh_carried() -> Carried
     ensures { λ r. ⌜ r ≡ freshCarried ⌝ }
 {
-    Carried { high_mask: 0 }
+    let slots = [0x0200_0000u32; SLOTS];
+    Carried {
+        high_mask: 0,
+        slots,
+    }
 }
 
 fn refuse(why: Refusal, carried: Carried) -> Expanded
@@ -52,6 +65,31 @@ fn least(a: usize, b: usize) -> usize
     if a < b { a } else { b }
 }
 
+// Writes a stream that was found to be sound and to fit, and tells how many words that is.
+fn write(
+    nine: &[u32],
+    carried: Carried,
+    input: &[u32],
+    needed: usize,
+    room: &mut [u32],
+    out: &mut [u32],
+) -> Expanded
+    requires { ⌜ (length (now nine) ≡ 9) × (length (now room) ≡ 640) × (faultOf (now nine) (carried .«high_mask») NoLoad (now input) ≡ accepted tt) × (needed ≡ length (expansionOf (now nine) carried (now input) .words)) × (needed ≤ length (now out)) ⌝ }
+    ensures { λ r. ⌜ call (told (r .answer)) (r .carried) (now (out .exit)) ≡ doneWith (expansionOf (now (nine .entry)) carried (now (input .entry))) (now (out .entry)) ⌝ }
+{
+    let mut slots = carried.slots;
+    let high = stream::pass_stream(nine, carried.high_mask, input, &mut slots, room, out);
+    let answer = Answer::Done(needed);
+    let after = Carried {
+        high_mask: high,
+        slots,
+    };
+    Expanded {
+        answer,
+        carried: after,
+    }
+}
+
 // Expands `input` into `out`. `nine` is the words m0 to m8: they are lent, and another number of them is refused by 4.
 pub fn expand(nine: &[u32], carried: Carried, input: &[u32], out: &mut [u32]) -> Expanded
     ensures { λ r. ⌜ call (told (r .answer)) (r .carried) (now (out .exit)) ≡ expandOf (now (nine .entry)) carried (now (input .entry)) (now (out .entry)) ⌝ }
@@ -62,19 +100,18 @@ pub fn expand(nine: &[u32], carried: Carried, input: &[u32], out: &mut [u32]) ->
     if STREAM_WORDS < input.len() {
         return refuse(Refusal::BadLength, carried);
     }
-    let over = limits::bad_rounds(nine, input);
-    if over {
-        return refuse(Refusal::BadRounds, carried);
-    }
-    let room = least(out.len(), NEEDED_MOST);
-    let needed = count::count_stream(nine, input, room);
-    if room < needed {
-        return refuse(Refusal::ShortOutput, carried);
-    }
-    let next = stream::put_stream(nine, carried, input, out);
-    Expanded {
-        answer: Answer::Done(needed),
-        carried: next,
+    let limit = least(out.len(), NEEDED_MOST);
+    let mut room = parts::part_room();
+    let seen = survey::survey_stream(nine, carried.high_mask, input, limit, &mut room);
+    let access = seen.access;
+    match access {
+        Access::Denied(why) => refuse(why, carried),
+        Access::Granted => {
+            if limit < seen.count {
+                return refuse(Refusal::ShortOutput, carried);
+            }
+            write(nine, carried, input, seen.count, &mut room, out)
+        }
     }
 }
 
@@ -82,4 +119,8 @@ pub fn expand(nine: &[u32], carried: Carried, input: &[u32], out: &mut [u32]) ->
 pub fn promises()
     ensures cut { λ _. ⌜ CutAnywhere ⌝ }
     ensures examples { λ _. ⌜ ExpanderExamples ⌝ }
+    ensures stages { λ _. ⌜ Stages ⌝ }
+    ensures plain { λ _. ⌜ PlainStreams ⌝ }
+    ensures slots { λ _. ⌜ SlotsHandedBack ⌝ }
+    ensures fresh { λ _. ⌜ FreshExpander ⌝ }
 {}

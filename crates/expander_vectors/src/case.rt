@@ -1,24 +1,30 @@
-// A case: seven words of 4 bytes, the lowest byte first.
+// A case: eight words of 4 bytes, the lowest byte first.
 use crate::draws::Mix;
+use crate::draws::Replays;
 use format::number::read;
 
-pub(crate) const BYTES: usize = 28;
+pub(crate) const BYTES: usize = 32;
 
 pub(crate) struct Case {
     pub(crate) seed: u32,
     pub(crate) high: u16,
     pub(crate) nine_words: usize,
     pub(crate) mix: Mix,
+    pub(crate) in_nine: Replays,
+    pub(crate) in_slots: Replays,
     pub(crate) m0: u32,
     pub(crate) m1: u32,
     pub(crate) stream_words: usize,
     pub(crate) room: usize,
 }
 
-// Seed; high mask and the number of nine words; the mix, a byte each; m0; m1; stream words; room.
+// Seed; high mask and the number of nine words; the mix, a byte each; m0; m1; stream words; room; the shares of REPLAYs in the stream,
+// the nine words and the slots, and whether their lengths may be odd.
 pub(crate) fn read_case(record: &[u8; BYTES]) -> Case {
     let lent = read(record, 4, 4);
     let mix = read(record, 8, 4);
+    let replays = read(record, 28, 4);
+    let odd = 0 < replays / 16777216;
     Case {
         seed: read(record, 0, 4),
         high: (lent % 65536) as u16,
@@ -28,6 +34,18 @@ pub(crate) fn read_case(record: &[u8; BYTES]) -> Case {
             mops1: mix / 256 % 256,
             configs: mix / 65536 % 256,
             counts: mix / 16777216,
+            replays: Replays {
+                below: replays % 256,
+                odd,
+            },
+        },
+        in_nine: Replays {
+            below: replays / 256 % 256,
+            odd,
+        },
+        in_slots: Replays {
+            below: replays / 65536 % 256,
+            odd,
         },
         m0: read(record, 12, 4),
         m1: read(record, 16, 4),

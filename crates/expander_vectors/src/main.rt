@@ -1,16 +1,18 @@
-// Runs the expander on the cases of standard input and writes a line for each: the answer, the high mask handed back, and a
-// checksum of the whole output. Before them it writes the mask of a fresh expander. oracle/cases_expander.py makes the cases and
-// the lines that are expected.
+// Runs the expander on the cases of standard input and writes a line for each: the answer, the high mask handed back, and checksums
+// of the slots handed back and of the whole output. Before them it writes mask and slots of a fresh expander. oracle/cases_expander.py
+// makes the cases and the lines that are expected.
 mod case;
 mod draws;
 
 use case::Case;
+use draws::Replays;
 use expander::Answer;
 use expander::Carried;
 use expander::Expanded;
 use libc::STDIN_FILENO;
 use libc::STDOUT_FILENO;
 use machine::refusal::refusal_number;
+use replay_buffer::SLOTS;
 use seeded::sums;
 
 fn print_answer(answer: Answer) {
@@ -26,25 +28,45 @@ fn print_answer(answer: Answer) {
     }
 }
 
-fn print_line(r: Expanded, sum: u32) {
-    let answer = r.answer;
-    let carried = r.carried;
-    print_answer(answer);
+// The high mask and the slots' checksum.
+fn print_carried(carried: Carried) {
+    let slots = carried.slots;
+    let sum = sums::add_words(sums::start(), &slots);
     io::write_all(STDOUT_FILENO, b" ");
     io::print_decimal(STDOUT_FILENO, carried.high_mask as u64);
+    io::write_all(STDOUT_FILENO, b" ");
+    io::print_decimal(STDOUT_FILENO, sums::checksum(sum) as u64);
+}
+
+fn print_line(r: Expanded, sum: u32) {
+    print_answer(r.answer);
+    print_carried(r.carried);
     io::write_all(STDOUT_FILENO, b" ");
     io::print_decimal(STDOUT_FILENO, sum as u64);
     io::write_all(STDOUT_FILENO, b"\n");
 }
 
+// The nine words: m0 and m1 are the case's, and some of the others become REPLAYs.
+fn make_nine(nine: &mut [u32], m0: u32, m1: u32, replays: Replays, state: u32) -> u32 {
+    let x = draws::fill(nine, state);
+    case::set_counts(nine, m0, m1);
+    if nine.len() < 2 {
+        return x;
+    }
+    draws::put_replays(&mut nine[2..], replays, x)
+}
+
 // The nine words, the stream and the output are what the case makes of the three slices.
 fn run_case(case: Case, nine: &mut [u32], stream: &mut [u32], out: &mut [u32]) {
-    let a = draws::fill(nine, case.seed);
-    case::set_counts(nine, case.m0, case.m1);
-    let b = draws::make_stream(stream, case.mix, a);
-    draws::fill(out, b);
+    let a = make_nine(nine, case.m0, case.m1, case.in_nine, case.seed);
+    let mut slots = [0u32; SLOTS];
+    let b = draws::fill(&mut slots, a);
+    let c = draws::put_replays(&mut slots, case.in_slots, b);
+    let d = draws::make_stream(stream, case.mix, c);
+    draws::fill(out, d);
     let carried = Carried {
         high_mask: case.high,
+        slots,
     };
     let r = expander::expand(nine, carried, stream, out);
     let sum = sums::add_words(sums::start(), out);
@@ -89,8 +111,8 @@ fn all_cases(nine: &mut [u32], stream: &mut [u32], out: &mut [u32]) {
 }
 
 fn print_fresh(carried: Carried) {
-    io::write_all(STDOUT_FILENO, b"fresh ");
-    io::print_decimal(STDOUT_FILENO, carried.high_mask as u64);
+    io::write_all(STDOUT_FILENO, b"fresh");
+    print_carried(carried);
     io::write_all(STDOUT_FILENO, b"\n");
 }
 

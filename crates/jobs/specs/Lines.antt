@@ -9,7 +9,8 @@ use Rattle.machine.specs.Fresh.{freshMachine}
 use Rattle.answers.specs.Answers.{Told, accepted, refused}
 use Rattle.turns.specs.Streams.{Streams, streams}
 use Rattle.expander.specs.declared.Carried.{Carried}
-use Rattle.expander.specs.Stream.{carry}
+use Rattle.expander.specs.State.{carry}
+use Rattle.replay_buffer.specs.Replay.{freshSlots}
 use Rattle.expander.specs.Call.{Call}
 use Rattle.image.specs.Calls.{saveOf}
 use Rattle.seeded.specs.Adler.{startSums, addBytes, bytesOf, checksumOf}
@@ -69,9 +70,9 @@ callLine (refused number values) c sum = line 4 number 0 (c .«high_mask») sum
 abbrev pub calledLine : Call → Line
 calledLine k = callLine (k .answer) (k .carried) (checksumOf (addBytes startSums (bytesOf (enc 4) (k .output))))
 
--- the seed is the high mask
+-- the seed is the high mask, and the slots are fresh
 abbrev pub expansionLine : Job → List ℕ → List ℕ → List ℕ → Line
-expansionLine j nine stream out = calledLine (expansionsOf nine stream (j .times) (carry (j .seed % 65536)) out)
+expansionLine j nine stream out = calledLine (expansionsOf nine stream (j .times) (carry (j .seed % 65536) freshSlots) out)
 
 -- room for the most words
 unfoldable pub wordRoom : List ℕ

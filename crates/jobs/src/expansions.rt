@@ -50,8 +50,11 @@ fn line_of(done: Expanded, sum: u32) -> Line
 fn expand_in(j: Job, nine: &[u32], stream: &[u32], out: &mut [u32]) -> Line
     ensures { λ r. ⌜ r ≡ expansionLine j (now (nine .entry)) (now (stream .entry)) (now (out .entry)) ⌝ }
 {
+    let fresh = expander::fresh_carried();
+    let slots = fresh.slots;
     let carried = Carried {
         high_mask: (j.seed % 65536) as u16,
+        slots,
     };
     let done = repeat_expansions(nine, carried, stream, out, j.times);
     let sum = sums::add_words(sums::start(), out);

@@ -9,7 +9,7 @@ use lib.ListN.{length}
 use types.Run.{OneOf, miss}
 use denote.Enum.Declared.{tagOf}
 use Rattle.machine.specs.declared.refusal.Refusal.{Refusal}
-use Rattle.machine.specs.declared.refusal.Refusal.the-variants.{BadThread, BadWord, BadField, BadLength, BadCursor, BadBudget, BadRounds, ShortOutput, BadImage, Malformed, BadPlace, WrongOwner}
+use Rattle.machine.specs.declared.refusal.Refusal.the-variants.{BadThread, BadWord, BadField, BadLength, BadCursor, BadBudget, BadRounds, ShortOutput, BadImage, Malformed, BadPlace, WrongOwner, BadReplay}
 use Rattle.machine.specs.Numbers.{numberOf, valuesOf}
 use Rattle.machine.proofs.refusal.Refusal.{the-type}
 
@@ -41,3 +41,4 @@ nine-means ShortOutput at e v = absurd (omega arith)
 nine-means Malformed at e v = absurd (omega arith)
 nine-means BadPlace at e v = absurd (omega arith)
 nine-means WrongOwner at e v = absurd (omega arith)
+nine-means BadReplay at e v = absurd (omega arith)

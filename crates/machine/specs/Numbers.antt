@@ -2,7 +2,7 @@
 use Prim.Native.Nat.{ℕ}
 use mathlib.Core.List.{List, [], _∷_}
 use Rattle.machine.specs.declared.refusal.Refusal.{Refusal}
-use Rattle.machine.specs.declared.refusal.Refusal.the-variants.{BadThread, BadWord, BadField, BadLength, BadCursor, BadBudget, BadRounds, ShortOutput, BadImage, Malformed, BadPlace, WrongOwner}
+use Rattle.machine.specs.declared.refusal.Refusal.the-variants.{BadThread, BadWord, BadField, BadLength, BadCursor, BadBudget, BadRounds, ShortOutput, BadImage, Malformed, BadPlace, WrongOwner, BadReplay}
 use Rattle.machine.specs.declared.refusal.StallCause.{StallCause}
 use Rattle.machine.specs.declared.refusal.StallCause.the-variants.{WaitHolds, MutexHeld, BankNotMatrix}
 
@@ -31,6 +31,8 @@ numberOf Malformed = 10
 numberOf BadPlace = 11
 -- source bank not owned by Unpackers
 numberOf WrongOwner = 12
+-- a REPLAY that is obeyed with length 0 or over 32 (document 02, K1)
+numberOf BadReplay = 13
 
 -- what comes back with the number: 9's offset
 abbrev pub valuesOf : Refusal → List ℕ
@@ -46,6 +48,7 @@ valuesOf (BadImage at) = at ∷ []
 valuesOf Malformed = []
 valuesOf BadPlace = []
 valuesOf WrongOwner = []
+valuesOf BadReplay = []
 
 abbrev pub stallNumberOf : StallCause → ℕ
 -- the wait

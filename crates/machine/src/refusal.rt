@@ -16,6 +16,7 @@ pub enum Refusal {
     Malformed,
     BadPlace,
     WrongOwner,
+    BadReplay,
 }
 
 // Why a word is stalled.
@@ -50,6 +51,7 @@ pub fn refusal_number(r: Refusal) -> u32
         Refusal::Malformed => 10,
         Refusal::BadPlace => 11,
         Refusal::WrongOwner => 12,
+        Refusal::BadReplay => 13,
     }
 }
 

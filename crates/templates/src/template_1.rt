@@ -37,7 +37,8 @@ fn last_word(nine: &[u32], o: u32) -> u32
     if o + 1 < count { nine[8] } else { nine[7] }
 }
 
-fn put_outer(nine: &[u32], o: u32, at: usize, out: &mut [u32]) -> usize
+// Internal: an outer round.
+pub fn put_outer(nine: &[u32], o: u32, at: usize, out: &mut [u32]) -> usize
     requires { ⌜ (length (now nine) ≡ 9) × (o < nth (now nine) 0) × (at + length (outerRound (now nine) o) ≤ length (now out)) ⌝ }
     ensures { λ r. ⌜ Wrote (now (out .entry)) at (outerRound (now (nine .entry)) o) (now (out .exit)) r ⌝ }
 {

@@ -13,12 +13,14 @@ use Rattle.dest_access.proofs.DestBack.{dest-promises}
 use Rattle.gpr_access.proofs.GprBack.{gpr-promises}
 use Rattle.source_access.proofs.SourceBack.{source-promises}
 use Rattle.expander.proofs.Folds.{cut}
+use Rattle.expander.proofs.Whole.{stages, plain-streams, slots-handed-back, fresh-expander}
+use Rattle.replay_buffer.proofs.Back.{back}
 use Rattle.acceptance.proofs.Worked.{all-worked}
 use Rattle.acceptance.proofs.promises.Statement.{statement}
 use Rattle.acceptance.proofs.promises.Tie as tie
 
 returns : tie.Need-returns
-returns c = (isolated, (all-worked, (unchanged, (keeps-formed, (chained, (observed, (offered-again, (ended, (run-keeps, (stuck-for-good, (views-cover, (image-facts, (round-trips, (gpr-promises, (dest-promises, (source-promises, cut))))))))))))))))
+returns c = (isolated, (all-worked, (unchanged, (keeps-formed, (chained, (observed, (offered-again, (ended, (run-keeps, (stuck-for-good, (views-cover, (image-facts, (round-trips, (gpr-promises, (dest-promises, (source-promises, (cut, (stages, (plain-streams, (back, (slots-handed-back, fresh-expander)))))))))))))))))))))
 
 pub promises-spec : {M : Type 1} → statement M
 promises-spec = tie.close (tie.spec returns)

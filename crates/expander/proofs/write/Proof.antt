@@ -1,0 +1,18 @@
+use Rattle.expander.specs.Call.{expansionOf}
+use native.Mathlib.Omega.{arith}
+use borrow.Author.Needs.{needs}
+use Rattle.expander.proofs.write.Statement.{statement}
+use Rattle.expander.proofs.write.Tie as tie
+
+pass-stream-requires : tie.Need-pass-stream-requires
+unfolding expansionOf
+pass-stream-requires c κs = (c .before .before .before .before .before .before .before .before .pre .0, c .before .before .before .before .before .before .before .before .pre .2, search needs, c .before .before .before .before .before .before .before .before .pre .1, omega (arith, c .before .before .before .before .before .before .before .before .pre .3, c .before .before .before .before .before .before .before .before .pre .4))
+
+returns : tie.Need-returns
+unfolding expansionOf
+returns c = rw (c .before .before .before .before .before .before .before .before .before .before .before .before .before .before .pre .3, c .before .before .before .before .before .pass-stream .ensures .0, c .before .before .before .before .before .pass-stream .ensures .1 .0, c .before .before .before .before .before .pass-stream .ensures .1 .1)
+
+pub write-spec : {M : Type 1} → statement M
+write-spec =
+    tie.close
+    (tie.spec (λ c. search needs) pass-stream-requires (λ c. search needs) (λ c. search needs) returns)

@@ -1,0 +1,4 @@
+pub mod Folds
+pub mod Surveys
+pub mod Passing
+pub mod Back

@@ -1,0 +1,4 @@
+pub mod Replay
+pub mod Counts
+pub mod Passing
+pub mod Promises
