@@ -95,6 +95,10 @@ def mop_cfg(high=0):
     return 0x03000000 | high
 
 
+def replay(start=0, length=0, shown=0, load=0):
+    return 0x04000000 | start << 14 | length << 4 | shown << 1 | load
+
+
 # Records of the programs.
 
 def record(kind, body):
