@@ -141,6 +141,21 @@ class Replay:
         return True
 
 
+class Call:
+    """A call at work: the high mask and the replay stage as the words of the stream so far left them."""
+
+    def __init__(self, carried, m):
+        self.m, self.high, self.replay = tuple(m), carried.high, Replay(carried.slots)
+
+    def take(self, word):
+        """The number that the next word of the stream is refused by, 7 or 13, or 0."""
+        if is_template_1(word) and (self.m[0] > ROUNDS_LIMIT or self.m[1] > ROUNDS_LIMIT):
+            return 7
+        if bits(word, 24, 31) == MOP_CFG:
+            self.high = bits(word, 0, 15)
+        return 0 if self.replay.take(*expanded(word, self.high, self.m)) else 13
+
+
 def expand(carried, m, stream, output):
     """Fills a lent list from its start and leaves its rest. The end of the stream ends a load.
 
@@ -149,16 +164,13 @@ def expand(carried, m, stream, output):
     """
     if len(m) != 9 or len(stream) > STREAM_LIMIT:
         return ('refused', 4), carried
-    m, high, replay = tuple(m), carried.high, Replay(carried.slots)
+    call = Call(carried, m)
     for word in stream:
-        if is_template_1(word) and (m[0] > ROUNDS_LIMIT or m[1] > ROUNDS_LIMIT):
-            return ('refused', 7), carried
-        if bits(word, 24, 31) == MOP_CFG:
-            high = bits(word, 0, 15)
-        if not replay.take(*expanded(word, high, m)):
-            return ('refused', 13), carried
-    written = replay.written
+        number = call.take(word)
+        if number:
+            return ('refused', number), carried
+    written = call.replay.written
     if len(written) > min(len(output), NEEDED_LIMIT):
         return ('refused', 8), carried
     output[:len(written)] = written
-    return ('filled', len(written)), Carried(high, tuple(replay.slots))
+    return ('filled', len(written)), Carried(call.high, tuple(call.replay.slots))
