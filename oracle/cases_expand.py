@@ -87,6 +87,14 @@ def any_inputs(draws, count):
         yield asm.expand_input(case.nine, case.carried, case.stream, cases_expander.chosen(draws, (room, room, room, 0xFFFFFFFF)))
 
 
+def long_input(draws):
+    """A stream of up to 2,000 MOPs and REPLAYs that can be obeyed; the room is what it needs, any, or the most."""
+    mix = cases_expander.replay_mix(draws, 0, ((0, 0, 0, 16), (1, 1, 2, 16), (4, 7, 9, 16)))
+    case = cases_expander.Case(draws.word(), draws.draw(), mix, draws.draw() % 4, draws.draw() % 4, draws.draw() % 2001)
+    room = cases_expander.chosen(draws, (case.needed(), draws.draw(), NEEDED_LIMIT))
+    return asm.expand_input(case.nine, case.carried, case.stream, room)
+
+
 def named_inputs():
     """Inputs by what they are, other than the longest."""
     drawn = {f'drawn {number}': data for number, data in enumerate(any_inputs(Draws(40), 25))}
