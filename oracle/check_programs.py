@@ -52,14 +52,17 @@ def expand_inputs():
     return {**with_more(cases_expand.longest()), **cases_expand.named_inputs()}
 
 
-INPUTS = {'emulate': emulate_inputs, 'resume': resume_inputs, 'expand': expand_inputs}
+def inputs(program):
+    """The inputs of a program, by what they are."""
+    made = {'emulate': emulate_inputs, 'resume': resume_inputs, 'expand': expand_inputs}[program]()
+    return {**made, **examples(program)}
 
 
 def main():
     """The exit code."""
     wrong = tried = 0
     for program, reference in PROGRAMS.items():
-        for name, data in {**INPUTS[program](), **examples(program)}.items():
+        for name, data in inputs(program).items():
             came = subprocess.run([TOP / 'target/bin' / program], input=data, stdout=subprocess.PIPE, check=False).stdout
             tried += 1
             if came != reference(data):
