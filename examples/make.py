@@ -1,17 +1,20 @@
 #!/usr/bin/env python3
 """Write the input files of the examples: `python3 examples/make.py`.
 
-A kernel here is three lists of words, one a thread, and a budget of turns. Each file NAME.bin is what `./emulate` reads, and
-saved_NAME.bin what `./resume` reads.
+A kernel here is three lists of words, one a thread, and a budget of turns. Each file NAME.bin is what `./emulate` reads,
+saved_NAME.bin what `./resume` reads, and recorded_NAME.bin what `./expand` reads; recorded_NAME.nine and recorded_NAME.stream are
+the same for `./expand NINE STREAM OUT`.
 """
 
 import os
+import struct
 import sys
 
 HERE = os.path.dirname(os.path.abspath(__file__))
 sys.path.insert(0, os.path.join(HERE, '..', 'oracle'))
 
 import assemble as asm  # noqa: E402
+from expander import FRESH, NEEDED_LIMIT  # noqa: E402
 from image import image_of  # noqa: E402
 from machine import MATRIX, fresh  # noqa: E402
 
@@ -40,6 +43,11 @@ deadlock = ([asm.atgetm(0), asm.nop(), asm.atgetm(1)], [asm.atgetm(1), asm.nop()
 # A word that the machine does not know, after work that stays: it ends refused 2 with thread 0 at the bad word.
 refused_word = ([asm.setdmareg(8, 0x1234), asm.mop(count=3)], [asm.nop()], [])
 
+# A loop recorded and played: REPLAY takes the four words behind it into slots 0 to 3, and the MOP plays them in each of its two
+# by three rounds, each time with a DMANOP after them. 36 words come out.
+recorded_nine = [2, 3, asm.setdmareg(8, 0), asm.sempost(1), asm.nop(), asm.replay(0, 4), asm.dmanop(), asm.dmanop(), asm.dmanop()]
+loop = [asm.adddmareg(4, 4, 1, 1), asm.wrcfg(4, 8), asm.movb2a(0, 16, four=1), asm.zeroacc(0, 4)]
+recorded_stream = [asm.replay(0, 4, load=1), *loop, asm.mop(template=1)]
 
 
 def saved_transpose():
@@ -59,9 +67,20 @@ EXAMPLES = {
     'refused_word': refused_word,
 }
 
+
+def words(numbers):
+    return struct.pack(f'<{len(numbers)}I', *numbers)
+
+
+def write(name, data):
+    with open(os.path.join(HERE, name), 'wb') as out:
+        out.write(data)
+
+
 if __name__ == '__main__':
     for name, streams in EXAMPLES.items():
-        with open(os.path.join(HERE, f'{name}.bin'), 'wb') as out:
-            out.write(asm.emulate_input(streams, 100))
-    with open(os.path.join(HERE, 'saved_transpose.bin'), 'wb') as out:
-        out.write(saved_transpose())
+        write(f'{name}.bin', asm.emulate_input(streams, 100))
+    write('saved_transpose.bin', saved_transpose())
+    write('recorded_loop.bin', asm.expand_input(recorded_nine, FRESH, recorded_stream, NEEDED_LIMIT))
+    write('recorded_loop.nine', words(recorded_nine))
+    write('recorded_loop.stream', words(recorded_stream))

@@ -95,6 +95,10 @@ def mop_cfg(high=0):
     return 0x03000000 | high
 
 
+def replay(start=0, length=0, shown=0, load=0):
+    return 0x04000000 | start << 14 | length << 4 | shown << 1 | load
+
+
 # Records of the programs.
 
 def record(kind, body):
@@ -116,3 +120,14 @@ def emulate_input(streams, budget):
 def resume_input(image, streams, budget, positions=(0, 0, 0), following=0):
     """Standard input of `resume`."""
     return image + emulate_input(streams, budget) + number_record(36, *positions, following)
+
+
+def carried_record(carried):
+    """What the expander carries: the high mask and the slots."""
+    high, slots = carried
+    return record(38, high.to_bytes(2, 'little') + b''.join(slot.to_bytes(4, 'little') for slot in slots))
+
+
+def expand_input(nine, carried, stream, room):
+    """Standard input of `expand`."""
+    return number_record(37, *nine) + carried_record(carried) + number_record(39, *stream) + number_record(40, room)

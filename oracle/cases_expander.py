@@ -1,16 +1,16 @@
 """Cases of the expander for crates/expander_vectors: what the program reads, and what it must write.
 
-A case is seven words of 4 bytes: seed; high mask, and the number of nine words lent from bit 16 on; the mix, a byte each
-(see `word`); m0; m1; words of the stream; room. The nine words, the stream and what the output holds before the call are
-drawn from the seed, in this order, as crates/expander_vectors draws them. Before the lines of the cases stands `fresh N`, the high
-mask of a fresh expander.
+A case is eight words of 4 bytes: seed; high mask, and the number of nine words lent from bit 16 on; the mix, a byte each (see
+`Mix`); m0; m1; words of the stream; room; the mix of REPLAYs, a byte each. All else is drawn from the seed, in the order of
+`Case`, as crates/expander_vectors draws it. Before the lines of the cases stands `fresh`, with what a fresh expander carries.
 """
 
 import struct
 import zlib
-from itertools import accumulate, takewhile
+from itertools import chain
 
-from expander import FRESH_HIGH, NEEDED_LIMIT, STREAM_LIMIT, expand, expanded
+from bits import bits
+from expander import FRESH, NEEDED_LIMIT, REPLAY, SLOTS, STREAM_LIMIT, Call, Carried, expand
 from seeded import Draws
 
 MOST_ROOM = 65600
@@ -18,26 +18,7 @@ NEVER = 0
 ALL = 16
 
 
-class Mix:
-    """Of sixteen kinds those below mops0 are MOP words of template 0, then those below mops1 of template 1, then those
-    below configs MOP_CFG words; counts is the most that template 0's count is."""
-
-    def __init__(self, mops0, mops1, configs, counts):
-        self.mops0, self.mops1, self.configs, self.counts = mops0, mops1, configs, counts
-
-    def packed(self):
-        return self.mops0 | self.mops1 << 8 | self.configs << 16 | self.counts << 24
-
-    def word(self, draws):
-        kind, high, low = draws.draw() % 16, draws.draw(), draws.draw()
-        if kind < self.mops0:
-            return 0x01000000 | min(high % 128, self.counts) << 16 | low
-        if kind < self.mops1:
-            return 0x01800000 | high % 128 << 16 | low
-        if kind < self.configs:
-            return 0x03000000 | high % 256 << 16 | low
-        return high << 16 | low
-
+# What is drawn from a seed.
 
 def states(draws, count):
     """The generator's states after the next draws."""
@@ -48,30 +29,87 @@ def states(draws, count):
     return made
 
 
+def replay_word(high, low, odd):
+    """A REPLAY from two draws: short lengths, 31 and 32, and where it may be odd also 0, 33, 63 and any; a fourth start at 31."""
+    whole = high << 16 | low
+    lengths = (1, 1, 2, 2, 3, 3, 4, 5, 8, 16, 31, 32, *((0, 33, 63, bits(whole, 4, 9)) if odd else (32, 31, 7, 6)))
+    start = 31 if bits(high, 12, 13) == 0 else bits(whole, 14, 18)
+    return REPLAY << 24 | whole & 0x00F83C0F | lengths[bits(high, 8, 11)] << 4 | start << 14
+
+
+class Mix:
+    """Of sixteen kinds those below mops0 are MOP words of template 0, then those below mops1 of template 1, then those
+    below configs MOP_CFG words, then those below replays REPLAY words; counts is the most that template 0's count is. Of the
+    nine words and of the slots, those of a kind below in_nine and below in_slots are REPLAY words."""
+
+    def __init__(self, mops0, mops1, configs, counts, replays=NEVER, in_nine=NEVER, in_slots=NEVER, odd=0):
+        self.mops0, self.mops1, self.configs, self.counts = mops0, mops1, configs, counts
+        self.replays, self.in_nine, self.in_slots, self.odd = max(replays, configs), in_nine, in_slots, odd
+
+    def packed(self):
+        """Its two words."""
+        return (self.mops0 | self.mops1 << 8 | self.configs << 16 | self.counts << 24,
+                self.replays | self.in_nine << 8 | self.in_slots << 16 | self.odd << 24)
+
+    def word(self, draws):
+        """A word of the stream."""
+        kind, high, low = draws.draw() % 16, draws.draw(), draws.draw()
+        if kind < self.mops0:
+            return 0x01000000 | min(high % 128, self.counts) << 16 | low
+        if kind < self.mops1:
+            return 0x01800000 | high % 128 << 16 | low
+        if kind < self.configs:
+            return 0x03000000 | high % 256 << 16 | low
+        if kind < self.replays:
+            return replay_word(high, low, self.odd)
+        return high << 16 | low
+
+    def with_replays(self, draws, words, share):
+        """The words, of which those of a kind below the share give way to REPLAYs."""
+        made = []
+        for word in words:
+            kind, high, low = draws.draw() % 16, draws.draw(), draws.draw()
+            made.append(replay_word(high, low, self.odd) if kind < share else word)
+        return made
+
+
 class Case:
     def __init__(self, seed, high, mix, m0, m1, length, lent=9):
         self.seed, self.high, self.mix, self.m0, self.m1, self.length, self.lent = seed, high, mix, m0, m1, length, lent
         draws = Draws(seed)
-        self.nine = states(draws, lent)
+        nine = states(draws, lent)
         if lent > 1:
-            self.nine[:2] = [m0, m1]
+            nine[:2] = [m0, m1]
+        self.nine = nine[:2] + mix.with_replays(draws, nine[2:], mix.in_nine)
+        self.carried = Carried(high, tuple(mix.with_replays(draws, states(draws, SLOTS), mix.in_slots)))
         self.stream = [mix.word(draws) for _ in range(length)]
         self.draws_left = draws.state
 
     def needed(self):
         """How many words the stream needs; the refusal's number if it is refused whatever the room."""
-        answer, _ = expand(self.high, self.nine, self.stream, [0] * NEEDED_LIMIT)
+        answer, _ = expand(self.carried, self.nine, self.stream, [0] * NEEDED_LIMIT)
         return answer[1]
 
     def packed(self, room):
-        return struct.pack('<7I', self.seed, self.high | self.lent << 16, self.mix.packed(), self.m0, self.m1, self.length, room)
+        first, last = self.mix.packed()
+        return struct.pack('<8I', self.seed, self.high | self.lent << 16, first, self.m0, self.m1, self.length, room, last)
 
     def line(self, room):
         output = states(Draws(self.draws_left), room)
-        (kind, number), high = expand(self.high, self.nine, self.stream, output)
+        (kind, number), carried = expand(self.carried, self.nine, self.stream, output)
         word = {'filled': 'done', 'refused': 'refused'}[kind]
-        return f'{word} {number} {high} {zlib.adler32(struct.pack(f"<{room}I", *output))}\n'
+        return f'{word} {number} {carried_line(carried)} {checksum(output)}\n'
 
+
+def checksum(words):
+    return zlib.adler32(struct.pack(f'<{len(words)}I', *words))
+
+
+def carried_line(carried):
+    return f'{carried.high} {checksum(carried.slots)}'
+
+
+# Short streams.
 
 def chosen(draws, among):
     return among[draws.draw() % len(among)]
@@ -82,81 +120,177 @@ def any_mask(draws):
     return chosen(draws, [0, 0xFFFF] + [draws.draw() for _ in range(6)])
 
 
-def any_mix(draws):
+COUNTS = (0, 1, 2, 7, 31, 32, 33, 63, 127)
+FEW, FLAGS, OVER = [0, 1, 1, 2, 3, 4, 9], [0, 1, 2, 3, 4, 7], [128, 129, 255, 0x7FFFFFFF, 0xFFFFFFFF]
+
+
+def mop_mix(draws):
+    """MOPs, and REPLAYs only as they come."""
     edges = sorted(draws.draw() % (ALL + 1) for _ in range(3))
-    return Mix(*edges, chosen(draws, [0, 1, 2, 7, 31, 32, 33, 63, 127]))
+    return Mix(*edges, chosen(draws, COUNTS), in_slots=chosen(draws, (NEVER, NEVER, NEVER, 8)))
 
 
-def short_case(draws, outer, inner, lent=9):
-    """A short stream of any mix; m0 and m1 from the two lists."""
-    return Case(draws.word(), any_mask(draws), any_mix(draws), chosen(draws, outer), chosen(draws, inner), draws.draw() % 17, lent)
+# REPLAYs alone, beside a few MOPs, and with as many; and so that 7 and 13 come equally often.
+SHAPES = ((0, 0, 0, 5), (0, 0, 0, 16), (1, 2, 3, 8), (2, 3, 4, 10), (1, 4, 5, 9), (3, 3, 5, 10), (0, 3, 3, 8), (4, 7, 9, 16))
+REFUSED = ((0, 1, 1, 12), (1, 3, 4, 16), (0, 2, 3, 9))
 
 
-def rooms_around(draws, needed):
-    """Rooms one short, exact and ample, and others."""
-    return [max(needed - 1, 0), needed, needed + 1 + draws.draw() % 9, draws.draw() % (needed + 1)]
+def replay_mix(draws, odd, shapes=SHAPES):
+    """REPLAYs in the stream, and now and then in the nine words and the slots."""
+    mops0, mops1, configs, replays = chosen(draws, shapes)
+    in_nine, in_slots = chosen(draws, (NEVER, NEVER, 3, 5, 8, ALL)), chosen(draws, (NEVER, 4, ALL))
+    return Mix(mops0, mops1, configs, chosen(draws, COUNTS), replays, in_nine, in_slots, odd)
 
 
-def short_cases(draws):
-    few, flags, over = [0, 1, 1, 2, 3, 4, 9], [0, 1, 2, 3, 4, 7], [128, 129, 255, 0x7FFFFFFF, 0xFFFFFFFF]
+def short_case(draws, mix, outer, inner, lent=9):
+    """A short stream of a mix; m0 and m1 from the two lists."""
+    return Case(draws.word(), any_mask(draws), mix, chosen(draws, outer), chosen(draws, inner), draws.draw() % 17, lent)
+
+
+def mop_cases(draws):
     for _ in range(1100):
-        yield short_case(draws, few, flags)
+        yield short_case(draws, mop_mix(draws), FEW, FLAGS)
     for _ in range(20):
-        yield short_case(draws, [1, 2, 127], [1, 63, 126, 127])
+        yield short_case(draws, mop_mix(draws), [1, 2, 127], [1, 63, 126, 127])
     for _ in range(150):
-        yield short_case(draws, few + over, flags + over)
+        yield short_case(draws, mop_mix(draws), FEW + OVER, FLAGS + OVER)
     for lent in (0, 1, 2, 8, 10, 16):
         for _ in range(5):
-            yield short_case(draws, few + over, flags + over, lent)
+            yield short_case(draws, mop_mix(draws), FEW + OVER, FLAGS + OVER, lent)
 
 
-def within_limit(case):
-    """How many words of the stream a call may take."""
-    totals = accumulate(sum(1 for _ in expanded(word, 0, case.nine)) for word in case.stream)
-    return sum(1 for _ in takewhile(lambda total: total <= NEEDED_LIMIT, totals))
+def replay_cases(draws):
+    for _ in range(550):
+        yield short_case(draws, replay_mix(draws, 0), FEW, FLAGS)
+    for _ in range(180):
+        yield short_case(draws, replay_mix(draws, 1), FEW, FLAGS)
+    for _ in range(100):
+        yield short_case(draws, replay_mix(draws, 1, REFUSED), OVER, FLAGS + OVER)
+    for lent in (0, 1, 2, 3, 8, 10, 16):
+        yield short_case(draws, replay_mix(draws, 1), FEW, FLAGS, lent)
 
 
-def boundary_cases(draws):
-    """Streams that need about as many words as a call may: the last word before the limit, and one more."""
-    for mix, m0, m1 in [(Mix(4, 8, 12, 127), 6, 10), (Mix(8, 8, 9, 31), 1, 3), (Mix(0, 16, 16, 0), 127, 127), (Mix(1, 2, 3, 5), 2, 2)] * 3:
+# Long streams.
+
+def goes(case):
+    """How many words of the stream are taken before one that is refused by 7 or 13 or writes too many, how many words are
+    written then, and the number that the next is refused by, 0 if there is none."""
+    call, written = Call(case.carried, case.nine), 0
+    for taken, word in enumerate(case.stream):
+        number = call.take(word)
+        if number or len(call.replay.written) > NEEDED_LIMIT:
+            return taken, written, number or 8
+        written = len(call.replay.written)
+    return len(case.stream), written, 0
+
+
+def cut(case, length):
+    return Case(case.seed, case.high, case.mix, case.m0, case.m1, length)
+
+
+def at_the_limit(draws, mix, m0, m1, exact=False, most=12000):
+    """Two streams: the last word before the limit, exactly at it where asked, and one more."""
+    while True:
+        whole = Case(draws.word(), draws.draw(), mix, m0, m1, most)
+        taken, written, number = goes(whole)
+        if number == 8 and (written == NEEDED_LIMIT or not exact):
+            return cut(whole, taken), cut(whole, taken + 1)
+
+
+def refused_when_full(draws, mix, m0, m1, wanted):
+    """A stream that writes too many words before its last one is refused by 7 or 13, as wanted."""
+    while True:
         whole = Case(draws.word(), draws.draw(), mix, m0, m1, 12000)
-        for more in (0, 1):
-            yield Case(whole.seed, whole.high, mix, m0, m1, within_limit(whole) + more)
+        call = Call(whole.carried, whole.nine)
+        length, number = next(((at + 1, number) for at, number in enumerate(map(call.take, whole.stream)) if number), (0, 0))
+        if number == wanted and len(call.replay.written) > NEEDED_LIMIT:
+            return cut(whole, length)
+
+
+def swallowed(draws, m1, length):
+    """MOPs of more words than a call may write, most of which their own loads take."""
+    while True:
+        case = Case(draws.word(), draws.draw(), Mix(NEVER, ALL, ALL, 0, in_nine=ALL), 127, m1, length)
+        if goes(case)[2] == 0:
+            return case
+
+
+def plain(draws, mix, m0, m1, length):
+    """A stream of MOPs none of whose words is a REPLAY."""
+    while True:
+        case = Case(draws.word(), draws.draw(), mix, m0, m1, length)
+        if all(bits(word, 24, 31) != REPLAY for word in case.nine):
+            return case
+
+
+def long_mop_cases(draws):
+    """Streams that need about as many words as a call may, or have as many: the last word before the limit, and one more."""
+    for _ in range(3):
+        yield from at_the_limit(draws, Mix(4, 8, 12, 127), 6, 10)
+        yield from at_the_limit(draws, Mix(8, 8, 9, 31), 1, 3)
+        yield from at_the_limit(draws, Mix(NEVER, ALL, ALL, 0), 127, 127)
+        yield from at_the_limit(draws, Mix(5, 10, 15, 2), 2, 2)
     for flag, each in ((0, 1), (1, 2), (2, 4)):
         for more in (-1, 0, 1):
-            yield Case(draws.word(), draws.draw(), Mix(ALL, ALL, ALL, 0), 0, flag, NEEDED_LIMIT // each + more)
+            yield plain(draws, Mix(ALL, ALL, ALL, 0), 0, flag, NEEDED_LIMIT // each + more)
     yield Case(draws.word(), draws.draw(), Mix(NEVER, NEVER, ALL, 0), 1, 1, STREAM_LIMIT)
     yield Case(draws.word(), draws.draw(), Mix(NEVER, NEVER, ALL, 0), 1, 1, STREAM_LIMIT + 1)
     yield Case(draws.word(), draws.draw(), Mix(NEVER, ALL, ALL, 0), 128, 128, STREAM_LIMIT + 1)
 
 
+def long_replay_cases(draws):
+    """The same by plays, from the stream and from MOPs; 7 and 13 behind a full output; more MOP words than a call may write."""
+    yield from at_the_limit(draws, Mix(NEVER, NEVER, NEVER, 0, ALL, in_slots=4), 0, 0, most=STREAM_LIMIT)
+    for _ in range(3):
+        yield from at_the_limit(draws, Mix(ALL, ALL, ALL, 0, in_nine=ALL), 0, 0, exact=True)
+        yield from at_the_limit(draws, Mix(4, 4, 4, 3, ALL, in_nine=ALL), 0, 1, exact=True)
+        yield from at_the_limit(draws, Mix(2, 4, 6, 7, ALL, in_nine=5), 3, 4)
+        yield refused_when_full(draws, Mix(8, 8, 9, 31), 1, 3, 13)
+        yield refused_when_full(draws, Mix(8, 8, 9, 31), 128, 3, 7)
+        yield from (swallowed(draws, m1, length) for m1, length in ((15, 20), (40, 8), (127, 3)))
+    yield Case(draws.word(), draws.draw(), Mix(NEVER, NEVER, NEVER, 0, ALL, odd=1), 0, 0, STREAM_LIMIT + 1)
+
+
+# All of them, with rooms.
+
 def with_rooms(draws, cases):
-    """Cases with the rooms around what each needs."""
+    """Rooms one short, exact and ample."""
     for case in cases:
-        for room in rooms_around(draws, case.needed()):
+        needed = case.needed()
+        for room in (max(needed - 1, 0), needed, needed + 1 + draws.draw() % 9):
             yield case, min(room, MOST_ROOM)
+
+
+def with_another(draws, cases):
+    """The same, and one anywhere below."""
+    for case in cases:
+        yield from with_rooms(draws, [case])
+        yield case, draws.draw() % (min(case.needed(), MOST_ROOM) + 1)
 
 
 def all_cases():
     """Cases with their rooms."""
     draws = Draws(20000)
-    yield from with_rooms(draws, short_cases(draws))
-    for case in boundary_cases(draws):
-        for room in (NEEDED_LIMIT - 1, NEEDED_LIMIT, MOST_ROOM):
-            yield case, room
+    yield from with_another(draws, mop_cases(draws))
+    yield from with_rooms(draws, replay_cases(draws))
+    for case in chain(long_mop_cases(draws), long_replay_cases(draws)):
+        yield from ((case, room) for room in (NEEDED_LIMIT - 1, NEEDED_LIMIT, MOST_ROOM))
 
 
 def any_cases(draws, count):
     """So many cases that are not among those, with their rooms."""
     few, over = [0, 1, 1, 2, 2, 3, 3, 5, 9, 127], [128, 0xFFFFFFFF]
-    makes = (short_case(draws, 2 * few + over, 2 * few + over, chosen(draws, [9] * 20 + [0, 8, 10])) for _ in range(count))
-    return with_rooms(draws, makes)
+    makes = (mop_mix, lambda draws: replay_mix(draws, 0), lambda draws: replay_mix(draws, 0), lambda draws: replay_mix(draws, 1))
+    cases = (short_case(draws, chosen(draws, makes)(draws), 2 * few + over, 2 * few + over, chosen(draws, [9] * 20 + [0, 8, 10]))
+             for _ in range(count))
+    return with_another(draws, cases)
 
 
 def input_and_output(cases):
     """What the program reads of cases with their rooms, and what it must write."""
     made = [(case.packed(room), case.line(room)) for case, room in cases]
-    return b''.join(packed for packed, _ in made), ''.join((f'fresh {FRESH_HIGH}\n', *(line for _, line in made))).encode()
+    stdout = ''.join((f'fresh {carried_line(FRESH)}\n', *(line for _, line in made)))
+    return b''.join(packed for packed, _ in made), stdout.encode()
 
 
 def files():

@@ -9,7 +9,7 @@ import zlib
 
 import assemble as asm
 import seeded
-from expander import expand
+from expander import FRESH, expand
 from image import SIZE, load, save
 from machine import fresh
 from run import START, run
@@ -57,12 +57,13 @@ def load_case(times, seed):
 
 
 def expand_case(times, high, room, nine, stream):
-    output, answer, now = [0] * room, ('filled', 0), high
+    """From the high mask and fresh slots; each call takes what the last one handed back."""
+    output, answer, carried = [0] * room, ('filled', 0), FRESH._replace(high=high)
     for _ in range(times):
-        answer, now = expand(now, nine, stream, output)
+        answer, carried = expand(carried, nine, stream, output)
     refusal, words = (answer[1], 0) if answer[0] == 'refused' else (0, answer[1])
     sum_of = zlib.adler32(struct.pack(f'<{room}I', *output))
-    return packed(4, times, high, room, (nine, stream, ())), f'expand {refusal} {words} {now} {sum_of}'
+    return packed(4, times, high, room, (nine, stream, ())), f'expand {refusal} {words} {carried.high} {sum_of}'
 
 
 BLOCK = 0b11100010  # B1, B5, B6, B7
@@ -83,6 +84,32 @@ def handshake(draws, rounds):
     return streams
 
 
+def mop_cases():
+    nine = [3, 4] + [0x02000000 + i for i in range(2, 9)]
+    stream = [asm.mop(0, 40, 0x5A5A), asm.mop_cfg(0xC3C3), asm.mop(1, 0, 0), asm.mop(0, 33, 0x0FF0), asm.nop()]
+    for times, room in ((1, 400), (2, 400), (1, 20), (0, 5)):
+        yield expand_case(times, 0x1111, room, nine, stream)
+    yield expand_case(1, 2, 400, [128] + nine[1:], stream)
+    yield expand_case(1, 2, 400, nine[:8], stream)
+
+
+def replay_cases():
+    """Loops recorded from words and MOPs, and played from the stream and the nine words; what a call loads the next one plays."""
+    nine = [3, 4] + [0x02000000 + i for i in range(2, 9)]
+    load = [asm.replay(30, 6, 0, 1), asm.setdmareg(1, 2), asm.mop_cfg(0x00F0), asm.mop(0, 20, 0x0505)]
+    shown = [asm.replay(3, 4, 1, 1), asm.replay(0, 0), asm.mop(1), asm.dmanop()]
+    stream = [asm.replay(0, 32), *load, asm.replay(29, 8), *shown, asm.replay(2, 6), asm.mop(1)]
+    cut_off = [asm.replay(9, 5, 0, 1), asm.replay(1, 33)]
+    for times, room in ((1, 400), (3, 400), (1, 100)):
+        yield expand_case(times, 0x1111, room, nine, stream + cut_off)
+    yield expand_case(2, 5, 400, nine, stream + cut_off[1:])
+    playing = [4, 3, asm.replay(31, 2, 0, 1), asm.dmanop(), asm.replay(31, 3), asm.replay(30, 4), *nine[6:]]
+    for times, words in ((1, [asm.mop(1)]), (2, [*load, asm.mop(1), asm.mop(0, 5, 7), asm.mop(1)]), (2, stream)):
+        yield expand_case(times, 5, 1000, playing, words)
+    yield expand_case(2, 5, 1, [3, 128] + nine[2:], [asm.nop()] * 2 + [asm.replay(0, 0), asm.mop(1)])
+    yield expand_case(2, 5, 1, [3, 128] + nine[2:], [asm.nop()] * 2 + [asm.mop(1), asm.replay(0, 0)])
+
+
 def all_cases():
     draws = seeded.Draws(77)
     streams = handshake(draws, 12)
@@ -93,12 +120,8 @@ def all_cases():
     yield run_case(2, 3, 100, [[asm.setdmareg(8, 0x1234)], [asm.trnspsrcb()], []])
     yield from (save_case(*case) for case in ((1, 0, SIZE), (2, 4, SIZE + 7), (1, 4, SIZE - 1), (0, 4, 100)))
     yield from (load_case(*case) for case in ((1, 0), (2, 4), (0, 4)))
-    nine = [3, 4] + [0x02000000 + i for i in range(2, 9)]
-    stream = [asm.mop(0, 40, 0x5A5A), asm.mop_cfg(0xC3C3), asm.mop(1, 0, 0), asm.mop(0, 33, 0x0FF0), asm.nop()]
-    for times, room in ((1, 400), (2, 400), (1, 20), (0, 5)):
-        yield expand_case(times, 0x1111, room, nine, stream)
-    yield expand_case(1, 2, 400, [128] + nine[1:], stream)
-    yield expand_case(1, 2, 400, nine[:8], stream)
+    yield from mop_cases()
+    yield from replay_cases()
 
 
 def files():

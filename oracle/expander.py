@@ -1,14 +1,45 @@
-"""The MOP stage: a stream with MOP and MOP_CFG words expanded (document 01, "Expander")."""
+"""The expander: the MOP stage (document 01, "Expander"), then the replay stage (document 02, K1)."""
+
+from functools import lru_cache
+from typing import NamedTuple
 
 from bits import bit, bits
 
-MOP, MOP_CFG = 0x01, 0x03
+MOP, MOP_CFG, REPLAY = 0x01, 0x03, 0x04
 STREAM_LIMIT = 65536
 NEEDED_LIMIT = 65536
 ROUNDS_LIMIT = 127
-FRESH_HIGH = 0  # the high mask that a first call takes
+SLOTS = 32
+NOP = 0x02000000
 
 
+class Carried(NamedTuple):
+    """What a call takes and hands back."""
+    high: int  # mask
+    slots: tuple
+
+
+FRESH = Carried(0, (NOP,) * SLOTS)  # what a first call takes
+
+
+# The MOP stage.
+
+class Emission(NamedTuple):
+    """Words that leave the MOP stage, and the places of the REPLAYs among them."""
+    words: tuple
+    replays: tuple
+
+
+def emission(words):
+    return Emission(words, tuple(place for place, word in enumerate(words) if bits(word, 24, 31) == REPLAY))
+
+
+def kept(template):
+    """A template whose emission is kept for the next MOP that is alike."""
+    return lru_cache(maxsize=32)(lambda *arguments: emission(tuple(template(*arguments))))
+
+
+@kept
 def template_0(m, count, mask):
     """Count + 1 rounds; bit i of the mask chooses what round i gives, clear above 31."""
     halo, last = bit(m[1], 1), bit(m[1], 0)
@@ -27,6 +58,7 @@ def template_0(m, count, mask):
                 yield m[8]
 
 
+@kept
 def template_1(m):
     """m0 outer rounds of m1 inner ones."""
     outer_rounds, inner_rounds = m[0], m[1]
@@ -45,12 +77,12 @@ def template_1(m):
 
 
 def expanded(word, high, m):
-    """The words that one word gives; a MOP_CFG gives none."""
+    """What one word emits; a MOP_CFG emits nothing. The nine words are a tuple."""
     opcode = bits(word, 24, 31)
     if opcode == MOP_CFG:
-        return ()
+        return emission(())
     if opcode != MOP:
-        return (word,)
+        return emission((word,))
     if bit(word, 23):
         return template_1(m)
     return template_0(m, bits(word, 16, 22), (high << 16) | bits(word, 0, 15))
@@ -60,23 +92,85 @@ def is_template_1(word):
     return bits(word, 24, 31) == MOP and bit(word, 23) == 1
 
 
-def expand(high, m, stream, output):
-    """Fills a lent list from its start and leaves its rest.
+# The replay stage.
 
-    Gives (('filled', words), new high mask), or (('refused', 4, 7 or 8), old high mask).
+class Replay:
+    """The slots, the load that is on while words are left to come, and what is written, to one word over the limit."""
+
+    def __init__(self, slots):
+        self.slots = list(slots)
+        self.next, self.left, self.shown = 0, 0, 0
+        self.written = []
+
+    def write(self, words):
+        self.written += words[:NEEDED_LIMIT + 1 - len(self.written)]
+
+    def load(self, words):
+        """Puts the first words into slots, as many as are left to come, and gives their number."""
+        taken = words[:self.left]
+        for word in taken:
+            self.slots[self.next] = word
+            self.next = (self.next + 1) % SLOTS
+        if self.shown:
+            self.write(taken)
+        self.left -= len(taken)
+        return len(taken)
+
+    def obey(self, word):
+        """Starts a load, or writes slots out. Gives whether the length is one that there is."""
+        start, length = bits(word, 14, 18), bits(word, 4, 9)
+        if length == 0 or length > SLOTS:
+            return False
+        if bit(word, 0):
+            self.next, self.left, self.shown = start, length, bit(word, 1)
+        else:
+            self.write([self.slots[(start + i) % SLOTS] for i in range(length)])
+        return True
+
+    def take(self, words, replays):
+        """Takes an emission; a REPLAY that a load takes is stored and not obeyed. Gives whether all that it obeys can be."""
+        at = self.load(words)
+        for place in replays:
+            if place >= at:
+                self.write(words[at:place])
+                if not self.obey(words[place]):
+                    return False
+                at = place + 1
+                at += self.load(words[at:at + SLOTS])
+        self.write(words[at:])
+        return True
+
+
+class Call:
+    """A call at work: the high mask and the replay stage as the words of the stream so far left them."""
+
+    def __init__(self, carried, m):
+        self.m, self.high, self.replay = tuple(m), carried.high, Replay(carried.slots)
+
+    def take(self, word):
+        """The number that the next word of the stream is refused by, 7 or 13, or 0."""
+        if is_template_1(word) and (self.m[0] > ROUNDS_LIMIT or self.m[1] > ROUNDS_LIMIT):
+            return 7
+        if bits(word, 24, 31) == MOP_CFG:
+            self.high = bits(word, 0, 15)
+        return 0 if self.replay.take(*expanded(word, self.high, self.m)) else 13
+
+
+def expand(carried, m, stream, output):
+    """Fills a lent list from its start and leaves its rest. The end of the stream ends a load.
+
+    Gives (('filled', words), new carried), or (('refused', 4, 7, 13 or 8), old carried). 7 and 13 are found in one pass over
+    the whole stream, and go before 8.
     """
     if len(m) != 9 or len(stream) > STREAM_LIMIT:
-        return ('refused', 4), high
-    if (m[0] > ROUNDS_LIMIT or m[1] > ROUNDS_LIMIT) and any(is_template_1(word) for word in stream):
-        return ('refused', 7), high
-    room = min(len(output), NEEDED_LIMIT)
-    needed, now = [], high
+        return ('refused', 4), carried
+    call = Call(carried, m)
     for word in stream:
-        if bits(word, 24, 31) == MOP_CFG:
-            now = bits(word, 0, 15)
-        for emitted in expanded(word, now, m):
-            if len(needed) == room:
-                return ('refused', 8), high
-            needed.append(emitted)
-    output[:len(needed)] = needed
-    return ('filled', len(needed)), now
+        number = call.take(word)
+        if number:
+            return ('refused', number), carried
+    written = call.replay.written
+    if len(written) > min(len(output), NEEDED_LIMIT):
+        return ('refused', 8), carried
+    output[:len(written)] = written
+    return ('filled', len(written)), Carried(call.high, tuple(call.replay.slots))

@@ -1,11 +1,15 @@
-"""The programs: `emulate` (document 01, "Program and cases") and `resume`, which also takes and gives an image.
+"""The programs: `emulate` (document 01, "Program and cases"), `resume`, which also takes and gives an image, and `expand`, which
+is one call of the expander.
 
     python3 oracle/program.py emulate < FILE
     python3 oracle/program.py resume < FILE
+    python3 oracle/program.py expand < FILE
 """
 
+import struct
 import sys
 
+import expander
 from image import SIZE, image_of, read_image
 from machine import fresh
 from run import BUDGET_LIMIT, START, STREAM_LIMIT, Cursor, run
@@ -14,6 +18,9 @@ EMULATE_WORDS = 1024  # words of a stream, at most
 STREAM_KINDS = (32, 33, 34)
 BUDGET_KIND = 35
 CURSOR_KIND = 36
+NINE_KIND, CARRIED_KIND, WORDS_KIND, ROOM_KIND = 37, 38, 39, 40
+NINE_MOST, WORDS_MOST = 16, expander.STREAM_LIMIT + 1  # more than the expander takes, so that it can refuse them by 4
+CARRIED = struct.Struct('<H32I')  # high mask, slots
 
 
 class BadRecord(Exception):
@@ -59,10 +66,21 @@ class Records:
             raise self.bad()
         return found
 
+    def fields(self, kind, form):
+        """The numbers of the next record's body, which has this form."""
+        body = self.body(kind)
+        if len(body) != form.size:
+            raise self.bad()
+        return form.unpack(body)
+
     def end(self):
         """Nothing comes after."""
         if self.at != len(self.data):
             raise BadRecord(self.at)
+
+
+def record(kind, body):
+    return struct.pack('<IH', len(body), kind) + body
 
 
 def lines(*texts):
@@ -113,12 +131,32 @@ def resume(data, load=read_image):
     return summary(result, streams) + lines(f'next {result.cursor.next}') + image_of(machine)
 
 
-PROGRAMS = {'emulate': emulate, 'resume': resume}
+def expand(data):
+    """Standard output of the expander's program: the nine words, what is carried, a stream and room in; the number of words,
+    what is carried on and the words out. A call that is refused hands on what came."""
+    records = Records(data)
+    try:
+        nine = records.numbers(NINE_KIND, NINE_MOST)
+        high, *slots = records.fields(CARRIED_KIND, CARRIED)
+        stream = records.numbers(WORDS_KIND, WORDS_MOST)
+        room, = records.exactly(ROOM_KIND, 1)
+        records.end()
+    except BadRecord as bad:
+        return lines(f'bad record at {bad.args[0]}')
+    output = [0] * min(room, expander.NEEDED_LIMIT)
+    (kind, number), carried = expander.expand(expander.Carried(high, tuple(slots)), nine, stream, output)
+    handed_on = record(CARRIED_KIND, CARRIED.pack(carried.high, *carried.slots))
+    if kind == 'refused':
+        return lines(f'refused {number}') + handed_on
+    return lines(f'words {number}') + handed_on + record(WORDS_KIND, struct.pack(f'<{number}I', *output[:number]))
+
+
+PROGRAMS = {'emulate': emulate, 'resume': resume, 'expand': expand}
 
 
 def main(arguments):
     if len(arguments) != 1 or arguments[0] not in PROGRAMS:
-        sys.exit('usage: program.py emulate|resume < FILE')
+        sys.exit(f'usage: program.py {"|".join(PROGRAMS)} < FILE')
     sys.stdout.buffer.write(PROGRAMS[arguments[0]](sys.stdin.buffer.read()))
 
 

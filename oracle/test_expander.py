@@ -1,12 +1,13 @@
-"""The MOP stage: both templates, the high mask, and refusals 4, 7 and 8."""
+"""The MOP stage: both templates, the high mask, and refusals 4, 7 and 8, with no REPLAY about."""
 
 import unittest
 
 import assemble as asm
-from expander import expand
+from expander import FRESH, Carried, expand
 
 M = [0, 0, 102, 103, 104, 105, 106, 107, 108]
 REST = 0xEEEE
+SLOTS = tuple(range(900, 932))
 
 
 def nine(m0=0, m1=0):
@@ -15,23 +16,23 @@ def nine(m0=0, m1=0):
 
 class Expander(unittest.TestCase):
     def words(self, stream, m=M, high=0, after=None):
-        """What a stream gives, with the new high mask as told (the old one if not)."""
+        """What a stream gives, with the new high mask as told (the old one if not) and the slots as they were."""
         output = [REST] * 2000
-        answer, now = expand(high, m, stream, output)
+        answer, now = expand(Carried(high, SLOTS), m, stream, output)
         self.assertEqual(answer[0], 'filled')
-        self.assertEqual(now, high if after is None else after)
+        self.assertEqual(now, Carried(high if after is None else after, SLOTS))
         self.assertEqual(output[answer[1]:], [REST] * (2000 - answer[1]))
         return output[:answer[1]]
 
     def refuses(self, number, stream, m=M, high=0x77, room=10):
-        output = [REST] * room
-        self.assertEqual(expand(high, m, stream, output), (('refused', number), high))
+        output, carried = [REST] * room, Carried(high, SLOTS)
+        self.assertEqual(expand(carried, m, stream, output), (('refused', number), carried))
         self.assertEqual(output, [REST] * room)
 
 
 class PassThrough(Expander):
     def test_other_words(self):
-        stream = [asm.nop(), 0xFFFFFFFF, 0, 0x04000000, 0x02010203]
+        stream = [asm.nop(), 0xFFFFFFFF, 0, 0x05000000, 0x02010203]
         self.assertEqual(self.words(stream), stream)
         self.assertEqual(self.words([]), [])
 
@@ -118,7 +119,7 @@ class Template1(Expander):
 
     def test_most_rounds(self):
         output = [REST] * 40000
-        answer, _ = expand(0, nine(127, 127), [asm.mop(template=1)], output)
+        answer, _ = expand(FRESH, nine(127, 127), [asm.mop(template=1)], output)
         self.assertEqual(answer, ('filled', 127 * 257))
         outer = [102] + [105, 106] * 126 + [105]
         self.assertEqual(output[:32639], (outer + [108, 103, 104]) * 126 + outer + [107, 103, 104])
@@ -147,22 +148,22 @@ class Refusals(Expander):
         self.refuses(8, stream, room=4)
         self.refuses(8, stream, room=0)
         output = [REST] * 5
-        self.assertEqual(expand(3, M, stream, output), (('filled', 5), 3))
+        self.assertEqual(expand(Carried(3, SLOTS), M, stream, output), (('filled', 5), Carried(3, SLOTS)))
         self.assertEqual(output, [asm.nop(), 103, 103, 103, asm.nop()])
 
     def test_8_by_limit(self):
         output = [REST] * 70000
-        self.assertEqual(expand(0, M, [asm.nop()] * 65536, output), (('filled', 65536), 0))
+        self.assertEqual(expand(FRESH, M, [asm.nop()] * 65536, output), (('filled', 65536), FRESH))
         self.assertEqual(output, [asm.nop()] * 65536 + [REST] * 4464)
         self.refuses(8, [asm.nop()] * 65535 + [asm.mop(count=1)], room=70000)
         # 2 x 32,639 words and 258 more are 65,536; one more is too many.
         stream = [asm.mop(template=1)] * 2 + [asm.nop()] * 258
-        self.assertEqual(expand(0, nine(127, 127), stream, [0] * 65536)[0], ('filled', 65536))
+        self.assertEqual(expand(FRESH, nine(127, 127), stream, [0] * 65536)[0], ('filled', 65536))
         self.refuses(8, stream + [asm.nop()], nine(127, 127), room=65537)
         self.refuses(8, [asm.mop(template=1)] * 65536, nine(127, 127), room=65536)
 
     def test_zero_words_need_no_room(self):
-        self.assertEqual(expand(0, nine(0, 127), [asm.mop(template=1)] * 65536, []), (('filled', 0), 0))
+        self.assertEqual(expand(FRESH, nine(0, 127), [asm.mop(template=1)] * 65536, []), (('filled', 0), FRESH))
 
     def test_order(self):
         long = [asm.nop()] * 65536 + [asm.mop(template=1)]

@@ -29,7 +29,7 @@ class Fresh(unittest.TestCase):
     def test_expander(self):
         _, stdout = cases_expander.input_and_output(cases_expander.any_cases(Draws(1), 60))
         words = {' '.join(line.split()[:2 if line.startswith('refused') else 1]) for line in stdout.decode().splitlines()}
-        self.assertEqual(words, {'fresh', 'done', 'refused 4', 'refused 7', 'refused 8'})
+        self.assertEqual(words, {'fresh', 'done', *(f'refused {number}' for number in (4, 7, 8, 13))})
 
     def test_decode(self):
         _, stdout = cases_decode.input_and_output(cases_decode.any_words(Draws(1), 3000))

@@ -4,7 +4,7 @@ import unittest
 
 import bench
 from destmap import ROWS_32, remapped, storage_32
-from expander import expand
+from expander import FRESH, expand
 from machine import fresh
 from program import emulate
 from words import step
@@ -14,7 +14,7 @@ M = [100, 101, 102, 103, 104, 105, 106, 107, 108]  # nine words m0–m8 that can
 
 def expansion(word, m):
     output = [0] * 100
-    answer, high = expand(0, m, [word], output)
+    answer, _ = expand(FRESH, m, [word], output)
     return output[:answer[1]]
 
 

@@ -1,4 +1,4 @@
-"""The programs: printed lines, bad records and their offsets, and `resume`."""
+"""The programs: printed lines, bad records and their offsets, `resume` and `expand`."""
 
 import subprocess
 import sys
@@ -6,9 +6,10 @@ import unittest
 from pathlib import Path
 
 import assemble as asm
+from expander import FRESH, Carried
 from image import SIZE, image_of
 from machine import fresh
-from program import emulate, resume
+from program import emulate, expand, resume
 from run import Cursor, run
 from testing import busy, still
 
@@ -140,17 +141,86 @@ class Resume(unittest.TestCase):
         self.assertEqual(resume(image + over + rest), f'bad record at {SIZE}\n'.encode())
 
 
+class Expand(unittest.TestCase):
+    NINE = (1, 1, 102, 103, 104, 105, 106, 107, 108)
+    BEFORE = Carried(0xBEEF, tuple(range(900, 932)))
+    # Records at 0, 42, 178 and 196; 206 bytes.
+    PLAIN = asm.expand_input(NINE, BEFORE, (asm.replay(31, 2, 0, 1), NOP, 0x60000000), 9)
+
+    def prints(self, data, line, carried, written=None):
+        words = b'' if written is None else asm.number_record(39, *written)
+        self.assertEqual(expand(data), line.encode() + b'\n' + asm.carried_record(carried) + words)
+
+    def bad(self, data, offset):
+        self.assertEqual(expand(data), f'bad record at {offset}\n'.encode())
+
+    def test_words(self):
+        self.prints(self.PLAIN, 'words 0', self.BEFORE._replace(slots=(0x60000000, *range(901, 931), NOP)), [])
+        stream = [asm.mop_cfg(5), asm.replay(31, 2), asm.mop(1), NOP]
+        written = [931, 900, 102, 105, 107, 103, 104, NOP]
+        for room in (8, 9, 65535, 65536, 65537, 0xFFFFFFFF):
+            self.prints(asm.expand_input(self.NINE, self.BEFORE, stream, room), 'words 8', self.BEFORE._replace(high=5), written)
+        self.prints(asm.expand_input(self.NINE, FRESH, [], 0), 'words 0', FRESH, [])
+
+    def test_by_bytes(self):
+        data = bytes.fromhex('24000000 2500' + '00000000' * 9 + '82000000 2600 0100' + '00000002' * 32
+                             + '04000000 2700 20000004 04000000 2800 02000000')
+        self.assertEqual(expand(data), b'words 2\n' + bytes.fromhex('82000000 2600 0100' + '00000002' * 32
+                                                                    + '08000000 2700 00000002 00000002'))
+
+    def test_refused(self):
+        changes = [asm.mop_cfg(5), asm.replay(0, 1, 0, 1), NOP]
+        for number, nine, stream, room in (
+                (4, self.NINE[:8], [], 0), (4, [0] * 16, [], 0), (4, [], [], 0), (4, self.NINE, [NOP] * 65534, 65536),
+                (7, [128] * 9, [asm.mop(1)], 0), (13, self.NINE, [asm.replay()], 0), (8, self.NINE, [NOP], 0),
+                (8, self.NINE, [NOP] * 65505 + [asm.replay(0, 32)], 0xFFFFFFFF)):
+            self.prints(asm.expand_input(nine, self.BEFORE, changes + stream, room), f'refused {number}', self.BEFORE)
+
+    def test_cut_anywhere(self):
+        self.assertEqual(len(self.PLAIN), 206)
+        for length in range(206):
+            self.bad(self.PLAIN[:length], max(start for start in (0, 42, 178, 196) if start <= length))
+        self.bad(self.PLAIN + b'\0', 206)
+        self.bad(self.PLAIN * 2, 206)
+
+    def test_kinds_and_order(self):
+        records = [self.PLAIN[:42], self.PLAIN[42:178], self.PLAIN[178:196], self.PLAIN[196:]]
+        self.bad(b''.join(records[place] for place in (1, 0, 2, 3)), 0)
+        self.bad(b''.join(records[place] for place in (0, 2, 1, 3)), 42)
+        self.bad(b''.join(records[place] for place in (0, 1, 3, 2)), 178)
+        self.bad(b''.join(records[place] for place in (0, 1, 1, 2, 3)), 178)
+        self.bad(b''.join(records[place] for place in (0, 1, 2, 3, 3)), 206)
+        for start in (0, 42, 178, 196):
+            for at in (4, 5):
+                data = bytearray(self.PLAIN)
+                data[start + at] ^= 128
+                self.bad(bytes(data), start)
+
+    def test_lengths(self):
+        for length in (1, 35, 37, 65, 68):
+            self.bad(asm.record(37, bytes(length)) + self.PLAIN[42:], 0)
+        self.prints(asm.record(37, bytes(64)) + self.PLAIN[42:], 'refused 4', self.BEFORE)
+        for length in (0, 2, 129, 131, 132):
+            self.bad(self.PLAIN[:42] + asm.record(38, bytes(length)) + self.PLAIN[178:], 42)
+        for length in (1, 7, 9, 4 * 65537 + 1, 4 * 65538):
+            self.bad(self.PLAIN[:178] + asm.record(39, bytes(length)) + self.PLAIN[196:], 178)
+        for length in (0, 3, 5, 8):
+            self.bad(self.PLAIN[:196] + asm.record(40, bytes(length)), 196)
+
+
 class CommandLine(unittest.TestCase):
     def ran(self, *arguments, data=b''):
         script = Path(__file__).resolve().parent / 'program.py'
         return subprocess.run([sys.executable, str(script), *arguments], input=data, capture_output=True)
 
-    def test_both_programs(self):
+    def test_each_program(self):
         result = self.ran('emulate', data=PLAIN)
         self.assertEqual((result.returncode, result.stdout), (0, emulate(PLAIN)))
         data = asm.resume_input(image_of(busy(80)), [[NOP], [], []], 5)
         result = self.ran('resume', data=data)
         self.assertEqual((result.returncode, result.stdout), (0, resume(data)))
+        result = self.ran('expand', data=Expand.PLAIN)
+        self.assertEqual((result.returncode, result.stdout), (0, expand(Expand.PLAIN)))
 
     def test_other_arguments(self):
         for arguments in ((), ('other',), ('emulate', 'more')):
