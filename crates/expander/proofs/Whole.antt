@@ -1,10 +1,13 @@
 -- What holds of the expander as a whole.
-use Prim.Native.Nat.{ℕ, zero, suc, _<_}
+use Prim.Native.Nat.{ℕ, zero, suc, _≤_, _<_}
 use mathlib.Core.Bool.{Bool, true, false, cond, _&&_}
 use mathlib.Core.List.{List, []}
 use mathlib.Core.Path.{_≡_, refl, sym, ap, _∙_}
 use native.Mathlib.Omega.{arith}
+use lib.Dec.{ltb}
 use lib.ListN.{length, getD, replicate}
+use borrow.Author.Tests.{ltb-false}
+use Rattle.bits.proofs.Choices.{neither}
 use Rattle.answers.specs.Answers.{Told, accepted, refused}
 use Rattle.replay_buffer.specs.Replay.{Played, buffer, playWords, anyReplay}
 use Rattle.replay_buffer.specs.declared.load.Load.the-variants.{NoLoad}
@@ -70,3 +73,20 @@ each-fresh (suc n) (suc i) h = each-fresh n i (omega arith)
 
 pub fresh-expander : FreshExpander
 fresh-expander = record { mask = refl; count = refl; each = each-fresh 32 }
+
+-- what an accepted call has written fits
+pub accepted-fits : (m : List ℕ) (c : Carried) (l out : List ℕ) (n : ℕ) → expandOf m c l out .answer ≡ accepted n → n ≤ length out
+unfolding expandOf
+accepted-fits m c l out n e = go (badLength m l) (faultOf m (c .«high_mask») NoLoad l) (shortOutput out k) refl e
+  where
+    k : ℕ
+    k = length (expansionOf m c l .words)
+
+    go : (long : Bool) (fault : Told (Unit {0})) (short : Bool) → shortOutput out k ≡ short →
+        cond long (refusedBy 4 c out) (unlessRefused fault c out (cond short (refusedBy 8 c out) (doneWith (expansionOf m c l) out))) .answer ≡ accepted n → n ≤ length out
+    go true fault short s h = let z : _≡_ {A = ℕ} 0 1 = cc in absurd (omega arith)
+    go false (refused number values) short s h = let z : _≡_ {A = ℕ} 0 1 = cc in absurd (omega arith)
+    go false (accepted x) true s h = let z : _≡_ {A = ℕ} 0 1 = cc in absurd (omega arith)
+    go false (accepted x) false s h =
+        let same : k ≡ n = cc in
+        omega (arith, ltb-false (length out) k (neither (ltb (length out) k) (ltb 65536 k) s .0))

@@ -95,16 +95,23 @@ fn replay_word(any: u32, odd: bool) -> u32 {
         + any / 524288 % 32 * 524288
 }
 
+// A word, or the REPLAY word in its place.
+fn replaced(old: u32, replays: Replays, x: u32) -> u32 {
+    let kind = draw(x) as u32 % 16;
+    let any = word(next_state(x), u32::MAX);
+    if kind < replays.below {
+        return replay_word(any, replays.odd);
+    }
+    old
+}
+
 // Puts REPLAY words in the place of some, and answers the last state.
 pub(crate) fn put_replays(words: &mut [u32], replays: Replays, state: u32) -> u32 {
     let mut x = state;
     let mut i: usize = 0;
     while i < words.len() {
-        let kind = draw(x) as u32 % 16;
-        let any = word(next_state(x), u32::MAX);
-        if kind < replays.below {
-            words[i] = replay_word(any, replays.odd);
-        }
+        let old = words[i];
+        words[i] = replaced(old, replays, x);
         x = state_after(x, 3);
         i += 1;
     }

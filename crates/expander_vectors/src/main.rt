@@ -39,8 +39,10 @@ fn print_carried(carried: Carried) {
 }
 
 fn print_line(r: Expanded, sum: u32) {
-    print_answer(r.answer);
-    print_carried(r.carried);
+    let answer = r.answer;
+    let carried = r.carried;
+    print_answer(answer);
+    print_carried(carried);
     io::write_all(STDOUT_FILENO, b" ");
     io::print_decimal(STDOUT_FILENO, sum as u64);
     io::write_all(STDOUT_FILENO, b"\n");
@@ -56,21 +58,37 @@ fn make_nine(nine: &mut [u32], m0: u32, m1: u32, replays: Replays, state: u32) -
     draws::put_replays(&mut nine[2..], replays, x)
 }
 
+// The slots, and the state after their draws.
+struct Slots {
+    slots: [u32; SLOTS],
+    state: u32,
+}
+
+fn make_slots(replays: Replays, state: u32) -> Slots {
+    let mut slots = [0u32; SLOTS];
+    let x = draws::fill(&mut slots, state);
+    let y = draws::put_replays(&mut slots, replays, x);
+    Slots { slots, state: y }
+}
+
+fn run_call(nine: &[u32], carried: Carried, stream: &[u32], out: &mut [u32]) {
+    let r = expander::expand(nine, carried, stream, out);
+    let sum = sums::add_words(sums::start(), out);
+    print_line(r, sums::checksum(sum));
+}
+
 // The nine words, the stream and the output are what the case makes of the three slices.
 fn run_case(case: Case, nine: &mut [u32], stream: &mut [u32], out: &mut [u32]) {
     let a = make_nine(nine, case.m0, case.m1, case.in_nine, case.seed);
-    let mut slots = [0u32; SLOTS];
-    let b = draws::fill(&mut slots, a);
-    let c = draws::put_replays(&mut slots, case.in_slots, b);
-    let d = draws::make_stream(stream, case.mix, c);
-    draws::fill(out, d);
+    let made = make_slots(case.in_slots, a);
+    let slots = made.slots;
+    let b = draws::make_stream(stream, case.mix, made.state);
+    draws::fill(out, b);
     let carried = Carried {
         high_mask: case.high,
         slots,
     };
-    let r = expander::expand(nine, carried, stream, out);
-    let sum = sums::add_words(sums::start(), out);
-    print_line(r, sums::checksum(sum));
+    run_call(nine, carried, stream, out);
 }
 
 // Reads one case and runs it, and answers whether there was one that fits.

@@ -1,8 +1,10 @@
 // Jobs of expansions.
 ghost use mathlib.Core.Path.{_≡_};
-ghost use Prim.Native.Nat.{_+_, _≤_};
+ghost use Prim.Native.Nat.{_+_, _%_, _≤_};
 ghost use lib.ListN.{length};
 ghost use Rattle.expander.specs.Call.{told};
+ghost use Rattle.expander.specs.State.{carry};
+ghost use Rattle.replay_buffer.specs.Replay.{freshSlots};
 ghost use Rattle.jobs.specs.Lines.{wordRoom, callLine, expansionLine, expansionsLine};
 use crate::Job;
 use crate::Line;
@@ -46,22 +48,29 @@ fn line_of(done: Expanded, sum: u32) -> Line
     }
 }
 
+// What the first call takes: the seed is the high mask, and the slots are fresh.
+fn first_carried(seed: u32) -> Carried
+    ensures { λ r. ⌜ r ≡ carry (seed % 65536) freshSlots ⌝ }
+{
+    let fresh = expander::fresh_carried();
+    let slots = fresh.slots;
+    Carried {
+        high_mask: (seed % 65536) as u16,
+        slots,
+    }
+}
+
 // Into the output lent.
 fn expand_in(j: Job, nine: &[u32], stream: &[u32], out: &mut [u32]) -> Line
     ensures { λ r. ⌜ r ≡ expansionLine j (now (nine .entry)) (now (stream .entry)) (now (out .entry)) ⌝ }
 {
-    let fresh = expander::fresh_carried();
-    let slots = fresh.slots;
-    let carried = Carried {
-        high_mask: (j.seed % 65536) as u16,
-        slots,
-    };
+    let carried = first_carried(j.seed);
     let done = repeat_expansions(nine, carried, stream, out, j.times);
     let sum = sums::add_words(sums::start(), out);
     line_of(done, sums::checksum(sum))
 }
 
-// The nine words and then the stream. The seed is the high mask, the limit the room. Internal: the words are there.
+// The nine words and then the stream. The limit is the room. Internal: the words are there.
 pub(crate) fn do_expansions(j: Job, words: &[u32]) -> Line
     requires { ⌜ j .n0 + j .n1 + j .n2 ≤ length (now words) ⌝ }
     ensures { λ r. ⌜ r ≡ expansionsLine j (now (words .entry)) ⌝ }

@@ -35,7 +35,7 @@ fn whole_words(n: usize) -> WordsRecord
 }
 
 // The record of words of a kind at a place, with a body of at most `most` bytes. Internal, as body_at.
-fn words_record(s: &[u8], at: usize, kind: u32, most: u32) -> WordsRecord
+pub fn words_record(s: &[u8], at: usize, kind: u32, most: u32) -> WordsRecord
     requires { ⌜ at ≤ 1000000 ⌝ }
     ensures { λ r. ⌜ r ≡ wordsRecordOf most kind (drop at (now (s .entry))) ⌝ }
 {

@@ -33,7 +33,7 @@ pub(crate) fn body_at(s: &[u8], at: usize, kind: u32, most: u32) -> BodyRead
 }
 
 // Whether a record of a kind with a body of n bytes is at a place. Internal, as body_at.
-pub(crate) fn has_body(s: &[u8], at: usize, kind: u32, n: u32) -> bool
+pub fn has_body(s: &[u8], at: usize, kind: u32, n: u32) -> bool
     requires { ⌜ at ≤ 1000000 ⌝ }
     ensures { λ r. ⌜ r ≡ hasBody kind n (drop at (now (s .entry))) ⌝ }
 {

@@ -5,13 +5,13 @@ use Rattle.jobs.proofs.expansions.expand_in.Statement.{statement}
 use Rattle.jobs.proofs.expansions.expand_in.Tie as tie
 
 returns : tie.Need-returns
-returns c = rw (c .before .checksum .ensures, c .before .before .add-words .ensures, c .before .before .before .before .start .ensures) at (c .line-of .ensures) ∙ ap calledLine (c .before .before .before .before .before .before .before .repeat-expansions .ensures)
+returns c = rw (c .before .checksum .ensures, c .before .before .add-words .ensures, c .before .before .before .before .start .ensures) at (c .line-of .ensures) ∙ ap calledLine (rw (c .before .before .before .before .before .before .before .before .before .first-carried .ensures) at (c .before .before .before .before .before .before .before .repeat-expansions .ensures))
 
 pub expand-in-spec : {M : Type 1} → statement M
 expand-in-spec =
     tie.close
     (tie.spec
-    (λ c. search needs)
+    (λ c κs. search needs)
     (λ c κs. search needs)
     (λ c κs. search needs)
     (λ c κs. search needs)

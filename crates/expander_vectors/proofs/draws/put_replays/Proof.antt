@@ -1,0 +1,38 @@
+use lib.ListN.{length-set, length}
+use native.Mathlib.Omega.{arith}
+use mathlib.Core.Path.{_≡_}
+use Prim.Native.Nat.{_-_, _≤_}
+use borrow.Author.Needs.{needs}
+use Rattle.expander_vectors.proofs.draws.put_replays.Statement.{statement}
+use Rattle.expander_vectors.proofs.draws.put_replays.Tie as tie
+
+abbrev Inv-loop : tie.InvT-loop
+Inv-loop words₀ replays state x₀ i₀ words x i = (i ≤ length words) × (length words ≡ length words₀)
+
+abbrev μ-loop : tie.MeasureT-loop
+μ-loop words₀ replays state x₀ i₀ words x i = length words - i
+
+loop-less : tie.Need-loop-less Inv-loop μ-loop
+loop-less c = simp length-set (omega arith)
+
+loop-again : tie.Need-loop-again Inv-loop μ-loop
+loop-again c = simp length-set (omega arith)
+
+pub put-replays-spec : {M : Type 1} → statement M
+put-replays-spec =
+    tie.close
+    (tie.spec
+    Inv-loop
+    μ-loop
+    (λ c. search needs)
+    (λ c. search needs)
+    (λ c. search needs)
+    (λ c κs. search needs)
+    (λ c. search needs)
+    (λ c. search needs)
+    (λ c κs. search needs)
+    (λ c. search needs)
+    loop-less
+    loop-again
+    (λ c. search needs)
+    (λ c. search needs))
