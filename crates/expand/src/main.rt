@@ -4,6 +4,7 @@ ghost use mathlib.Core.Path.{_≡_};
 ghost use Prim.Native.Nat.{_≤_};
 ghost use lib.ListN.{length};
 ghost use Rattle.expand.specs.Sizes.{Fits, answered};
+
 mod input;
 mod output;
 
@@ -21,8 +22,11 @@ use replay_buffer::SLOTS;
 
 // The most words of records 37 and 39, the most that record 40 lends, and the bytes of a record 39 of as many.
 const NINE_MOST: usize = 16;
+
 const STREAM_MOST: usize = 65537;
+
 const ROOM_MOST: usize = 65536;
+
 const WORDS_RECORD: usize = 262150;
 
 // Record 38 of a sound input.
@@ -70,7 +74,14 @@ fn expand_words(nine: &[u32], carried: Carried, stream: &[u32], out: &mut [u32],
 }
 
 // The words of a sound input, read into slices as long as they are, and the call.
-fn expand_input(s: &[u8], z: Sizes, nine: &mut [u32], stream: &mut [u32], out: &mut [u32], bytes: &mut [u8])
+fn expand_input(
+    s: &[u8],
+    z: Sizes,
+    nine: &mut [u32],
+    stream: &mut [u32],
+    out: &mut [u32],
+    bytes: &mut [u8],
+)
     requires { ⌜ Fits (now s) z × (length (now nine) ≡ z .nine) × (length (now stream) ≡ z .words) × (length (now out) ≤ 65536) × (262150 ≤ length (now bytes)) ⌝ }
 {
     let n = z.nine;
@@ -81,13 +92,27 @@ fn expand_input(s: &[u8], z: Sizes, nine: &mut [u32], stream: &mut [u32], out: &
 }
 
 // The same, in as much of longer slices as the input has words and lends room. Internal: they hold the most words.
-fn expand_sound(s: &[u8], z: Sizes, nine: &mut [u32], stream: &mut [u32], out: &mut [u32], bytes: &mut [u8])
+fn expand_sound(
+    s: &[u8],
+    z: Sizes,
+    nine: &mut [u32],
+    stream: &mut [u32],
+    out: &mut [u32],
+    bytes: &mut [u8],
+)
     requires { ⌜ Fits (now s) z × (length (now nine) ≡ 16) × (length (now stream) ≡ 65537) × (length (now out) ≡ 65536) × (262150 ≤ length (now bytes)) ⌝ }
 {
     let n = z.nine;
     let words = z.words;
     let room = read_room(s, z);
-    expand_input(s, z, &mut nine[..n], &mut stream[..words], &mut out[..room], bytes);
+    expand_input(
+        s,
+        z,
+        &mut nine[..n],
+        &mut stream[..words],
+        &mut out[..room],
+        bytes,
+    );
 }
 
 // Answers the input. Internal, as expand_sound.

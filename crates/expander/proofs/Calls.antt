@@ -12,9 +12,13 @@ use Rattle.replay_buffer.specs.Replay.{Played, buffer, playWords}
 use Rattle.replay_buffer.specs.Counts.{countAll}
 use Rattle.replay_buffer.specs.declared.load.Load.the-variants.{NoLoad}
 use Rattle.replay_buffer.proofs.Folds.{play-long}
-use Rattle.expander.specs.Call.{Call, call, faultOf, neededMost, shortOutput, refusedBy, unlessRefused, doneWith, expansionOf, expandOf}
+use Rattle.expander.specs.Call.{Call, call, badRounds, faultOf, neededMost, shortOutput, refusedBy, unlessRefused, doneWith, expansion, expansionOf, expandOf}
+use Rattle.expander.specs.Counts.{streamCount}
+use Rattle.expander.specs.Promises.{mopCallOf}
+use Rattle.expander.specs.State.{carry}
 use Rattle.expander.specs.Stream.{streamOf}
 use Rattle.expander.specs.declared.Carried.{Carried}
+use Rattle.expander.proofs.Folds.{stream-long}
 
 -- the lesser of the room and 65,536 decides
 short : (out : List ℕ) (needed : ℕ) → min (length out) neededMost < needed → shortOutput out needed ≡ true
@@ -56,3 +60,21 @@ module _ (m : List ℕ) (c : Carried) (l out : List ℕ) where
         pub enough-room : length (expansionOf m c l .words) ≤ min (length out) neededMost → expandOf m c l out ≡ doneWith (expansionOf m c l) out
         unfolding expandOf
         enough-room h = rw (eq-eqb (length m) 9 nine, le-ltb 65536 (length l) fits, ← sound, ample out (length (expansionOf m c l .words)) h)
+
+-- the same of a call of the MOP stage alone
+module _ (m : List ℕ) (c : Carried) (l out : List ℕ) (nine : length m ≡ 9) (fits : length l ≤ 65536) where
+  pub mop-rounds : badRounds m l ≡ true → mopCallOf m c l out ≡ refusedBy 7 c out
+  unfolding mopCallOf
+  mop-rounds h = rw (eq-eqb (length m) 9 nine, le-ltb 65536 (length l) fits, h)
+
+  module _ (few : badRounds m l ≡ false) where
+    pub mop-little : min (length out) neededMost < streamCount m l → mopCallOf m c l out ≡ refusedBy 8 c out
+    unfolding mopCallOf
+    mop-little h =
+        rw (eq-eqb (length m) 9 nine, le-ltb 65536 (length l) fits, few, short out (length (streamOf m (c .«high_mask») l .words)) (rw (stream-long m (c .«high_mask») l) h))
+
+    pub mop-enough : streamCount m l ≤ min (length out) neededMost →
+        mopCallOf m c l out ≡ doneWith (expansion (streamOf m (c .«high_mask») l .words) (carry (streamOf m (c .«high_mask») l .high) (c .slots))) out
+    unfolding mopCallOf
+    mop-enough h =
+        rw (eq-eqb (length m) 9 nine, le-ltb 65536 (length l) fits, few, ample out (length (streamOf m (c .«high_mask») l .words)) (rw (stream-long m (c .«high_mask») l) h))

@@ -7,15 +7,16 @@ use native.Mathlib.Nat.{div-one}
 use native.Mathlib.Numerals.{add-one}
 use native.Mathlib.Omega.{arith}
 use lib.Dec.{eqb}
-use lib.ListN.{length, getD, drop, drop-of-length-le}
+use lib.ListN.{length, getD, drop, length-append, drop-of-length-le}
 use lib.Seq.{drop-cons}
 use borrow.Author.Tests.{eq-eqb, ne-eqb}
 use Rattle.bits.specs.Field.{field, flag}
 use Rattle.bits.proofs.Choices.{cond-both}
 use Rattle.templates.specs.Templates.{groupCount, outerCount, nth, rounds, maskBit, maskRound, outerRound, template0, template1}
 use Rattle.templates.proofs.Rounds.{rounds-long, outer-long, mask-group-long}
-use Rattle.expander.specs.Call.{isTemplate1}
-use Rattle.expander.specs.Parts.{mopCount, partCount, mopPart}
+use Rattle.expander.specs.Call.{isTemplate1, anyTemplate1}
+use Rattle.expander.specs.Counts.{mopCount, wordCount, streamCount}
+use Rattle.expander.specs.Parts.{partCount, mopPart}
 use Rattle.expander.specs.Promises.{CutAnywhere}
 use Rattle.expander.specs.Stream.{Emission, emission, followedBy, opcode, mopWords, wordOf, streamOf}
 
@@ -94,3 +95,38 @@ module _ (m : List ℕ) (high : ℕ) (l : List ℕ) (i : ℕ) where
 -- a MOP is of template 1 by bit 23
 pub template-here : (over : Bool) (word : ℕ) → opcode word ≡ 1 → (over && isTemplate1 word) ≡ false → (over && flag 23 word) ≡ false
 template-here over word h p = rw h at p
+
+-- the counts are the lengths, whatever the mask
+word-long : (m : List ℕ) (high word : ℕ) → length (wordOf m high word .words) ≡ wordCount m word
+unfolding wordOf wordCount
+word-long m high word = go (eqb (opcode word) 1) (eqb (opcode word) 3)
+  where
+    go : (s t : Bool) → length (cond s (emission (mopWords m high word) high) (cond t (emission [] (field 0 16 word)) (emission (word ∷ []) high)) .words) ≡ cond s (mopCount m word) (cond t 0 1)
+    go true t = mop-long m high word
+    go false true = refl
+    go false false = refl
+
+pub stream-long : (m : List ℕ) (high : ℕ) (l : List ℕ) → length (streamOf m high l .words) ≡ streamCount m l
+unfolding streamOf streamCount
+stream-long m high [] = refl
+stream-long m high (word ∷ l) =
+    let w = wordOf m high word in
+    omega (arith, length-append (w .words) (streamOf m (w .high) l .words), word-long m high word, stream-long m (w .high) l)
+
+-- a turn of a loop that counts or looks for template 1, and its end
+module _ (l : List ℕ) (i : ℕ) where
+  pub count-next : i < length l → (m : List ℕ) → streamCount m (drop i l) ≡ wordCount m (getD l i 0) + streamCount m (drop (i + 1) l)
+  unfolding streamCount
+  count-next h m = rw (add-one i, drop-cons l i 0 h)
+
+  pub any-next : i < length l → anyTemplate1 (drop i l) ≡ (isTemplate1 (getD l i 0) || anyTemplate1 (drop (i + 1) l))
+  unfolding anyTemplate1
+  any-next h = rw (add-one i, drop-cons l i 0 h)
+
+  pub count-end : length l ≤ i → (m : List ℕ) → streamCount m (drop i l) ≡ 0
+  unfolding streamCount
+  count-end h m = rw (drop-of-length-le l h)
+
+  pub any-end : length l ≤ i → anyTemplate1 (drop i l) ≡ false
+  unfolding anyTemplate1
+  any-end h = rw (drop-of-length-le l h)

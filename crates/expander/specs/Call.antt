@@ -46,6 +46,10 @@ anyTemplate1 (word ∷ l) = isTemplate1 word || anyTemplate1 l
 abbrev pub overRounds : List ℕ → Bool
 overRounds m = ltb 127 (nth m 0) || ltb 127 (nth m 1)
 
+-- a template 1 MOP in the stream with m0 or m1 over 127
+abbrev pub badRounds : List ℕ → List ℕ → Bool
+badRounds m l = overRounds m && anyTemplate1 l
+
 -- refusal 7 of a word, and refusal 13 of a REPLAY that leaves the MOP stage: "in one pass with 7, whichever word comes first"
 unfoldable pub faultOf : List ℕ → ℕ → Load → List ℕ → Told (Unit {0})
 faultOf m high load [] = accepted tt

@@ -1,12 +1,9 @@
--- A MOP in parts and how many words it gives. These definitions serve internal contracts alone.
+-- A MOP in parts. These definitions serve internal contracts alone.
 use Prim.Native.Nat.{ℕ, _+_, _*_}
 use mathlib.Core.Bool.{cond}
 use mathlib.Core.List.{List}
 use Rattle.bits.specs.Field.{field, flag}
-use Rattle.templates.specs.Templates.{nth, groupCount, outerCount, outerRound, template0}
-
-unfoldable pub mopCount : List ℕ → ℕ → ℕ
-mopCount m word = cond (flag 23 word) (nth m 0 * outerCount (nth m 1)) ((field 16 7 word + 1) * groupCount m)
+use Rattle.templates.specs.Templates.{nth, outerRound, template0}
 
 -- a part has at most 640 words: all of template 0, or an outer round of template 1
 abbrev pub partCount : List ℕ → ℕ → ℕ

@@ -1,6 +1,6 @@
 -- What holds of the expander as a whole.
 use Prim.Native.Nat.{ℕ, _<_}
-use mathlib.Core.Bool.{false, cond, _&&_}
+use mathlib.Core.Bool.{false, cond}
 use mathlib.Core.List.{List, [], _∷_, _++_}
 use mathlib.Core.Path.{_≡_}
 use lib.ListN.{length, getD}
@@ -10,7 +10,7 @@ use Rattle.replay_buffer.specs.Replay.{slotCount, buffer, playWords, anyReplay}
 use Rattle.replay_buffer.specs.declared.load.Load.the-variants.{NoLoad}
 use Rattle.expander.specs.Stream.{emission, followedBy, streamOf}
 use Rattle.expander.specs.State.{carry, freshCarried}
-use Rattle.expander.specs.Call.{Call, call, badLength, anyTemplate1, overRounds, shortOutput, refusedBy, doneWith, expansion, expandOf}
+use Rattle.expander.specs.Call.{Call, call, badLength, badRounds, shortOutput, refusedBy, doneWith, expansion, expandOf}
 use Rattle.expander.specs.declared.Carried.{Carried}
 
 -- a stream may be cut between any two words: what leaves the MOP stage is what the first part gives and then what the second does,
@@ -43,7 +43,7 @@ unfoldable pub mopCallOf : List ℕ → Carried → List ℕ → List ℕ → Ca
 mopCallOf m c l out =
     let mops = streamOf m (c .«high_mask») l in
     cond (badLength m l) (refusedBy 4 c out)
-    (cond (overRounds m && anyTemplate1 l) (refusedBy 7 c out)
+    (cond (badRounds m l) (refusedBy 7 c out)
     (cond (shortOutput out (length (mops .words))) (refusedBy 8 c out)
     (doneWith (expansion (mops .words) (carry (mops .high) (c .slots))) out)))
 

@@ -1,10 +1,10 @@
-// Counting the words that a MOP gives, up to one past a limit.
+// Counting the words that a stream gives, up to one past a limit.
 ghost use mathlib.Core.Path.{_≡_};
 ghost use Prim.Native.Nat.{_+_, _*_, _≤_};
 ghost use lib.ListN.{length};
 ghost use Rattle.templates.specs.Templates.{groupCount, outerCount};
 ghost use Rattle.replay_buffer.specs.Counts.{capped};
-ghost use Rattle.expander.specs.Parts.{mopCount};
+ghost use Rattle.expander.specs.Counts.{mopCount, wordCount, streamCount};
 use replay_buffer::survey::cap;
 
 // Template 1: `start` and the words of `outer` outer rounds, left by the label once the count passes the limit.
@@ -56,4 +56,32 @@ pub(crate) fn count_mop(nine: &[u32], word: u32, start: usize, limit: usize) -> 
         let all = (word / 65536 % 128 + 1) * group_count(nine);
         cap(start + all as usize, limit)
     }
+}
+
+fn count_word(nine: &[u32], word: u32, start: usize, limit: usize) -> usize
+    requires { ⌜ (length (now nine) ≡ 9) × (start ≤ limit) × (limit ≤ 65536) ⌝ }
+    ensures { λ r. ⌜ r ≡ capped limit (start + wordCount (now (nine .entry)) word) ⌝ }
+{
+    match word / 16777216 % 256 {
+        1 => count_mop(nine, word, start, limit),
+        3 => start,
+        _ => cap(start + 1, limit),
+    }
+}
+
+// Internal: the words of a whole stream.
+pub(crate) fn count_stream(nine: &[u32], input: &[u32], limit: usize) -> usize
+    requires { ⌜ (length (now nine) ≡ 9) × (limit ≤ 65536) ⌝ }
+    ensures { λ r. ⌜ r ≡ capped limit (streamCount (now (nine .entry)) (now (input .entry))) ⌝ }
+{
+    let mut n: usize = 0;
+    let mut i: usize = 0;
+    while i < input.len() {
+        n = count_word(nine, input[i], n, limit);
+        if limit < n {
+            return n;
+        }
+        i += 1;
+    }
+    n
 }

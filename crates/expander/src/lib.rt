@@ -1,22 +1,28 @@
 // The expander: a stream with MOP, MOP_CFG and REPLAY words becomes the words that they stand for (document 01, "Expander"; document
 // 02, K1).
+ghost use mathlib.Core.Bool.{false};
 ghost use mathlib.Core.Path.{_≡_};
 ghost use Prim.Native.Nat.{min, _≤_};
 ghost use lib.ListN.{length};
 ghost use Rattle.answers.specs.Answers.{accepted};
+ghost use Rattle.replay_buffer.specs.Replay.{anyReplay};
 ghost use Rattle.replay_buffer.specs.declared.load.Load.the-variants.{NoLoad};
 ghost use Rattle.expander.specs.declared.Answer.the-variants.{Refused};
 ghost use Rattle.expander.specs.State.{freshCarried};
-ghost use Rattle.expander.specs.Call.{told, call, faultOf, expansionOf, doneWith, expandOf};
+ghost use Rattle.expander.specs.Call.{told, call, faultOf, neededMost, expansionOf, doneWith, expandOf};
 ghost use Rattle.expander.specs.Promises.{CutAnywhere, ExpanderExamples, Stages, PlainStreams, SlotsHandedBack, FreshExpander};
 use answers::Access;
 use machine::refusal::Refusal;
 use machine::sizes::STREAM_WORDS;
 use replay_buffer::SLOTS;
+use replay_buffer::load::any_replay;
+use replay_buffer::load::least;
 
 mod count;
+mod limits;
 mod mask;
 mod parts;
+mod pass;
 mod stream;
 mod survey;
 
@@ -59,12 +65,6 @@ fn refuse(why: Refusal, carried: Carried) -> Expanded
     }
 }
 
-fn least(a: usize, b: usize) -> usize
-    ensures { λ r. ⌜ r ≡ min a b ⌝ }
-{
-    if a < b { a } else { b }
-}
-
 // Writes a stream that was found to be sound and to fit, and tells how many words that is.
 fn write(
     nine: &[u32],
@@ -78,7 +78,64 @@ fn write(
     ensures { λ r. ⌜ call (told (r .answer)) (r .carried) (now (out .exit)) ≡ doneWith (expansionOf (now (nine .entry)) carried (now (input .entry))) (now (out .entry)) ⌝ }
 {
     let mut slots = carried.slots;
-    let high = stream::pass_stream(nine, carried.high_mask, input, &mut slots, room, out);
+    let high = pass::pass_stream(nine, carried.high_mask, input, &mut slots, room, out);
+    let answer = Answer::Done(needed);
+    let after = Carried {
+        high_mask: high,
+        slots,
+    };
+    Expanded {
+        answer,
+        carried: after,
+    }
+}
+
+// A call whose lengths are right, by both stages. `limit` is the most words that it may write.
+fn expand_replayed(
+    nine: &[u32],
+    carried: Carried,
+    input: &[u32],
+    limit: usize,
+    out: &mut [u32],
+) -> Expanded
+    requires { ⌜ (length (now nine) ≡ 9) × (length (now input) ≤ 65536) × (limit ≡ min (length (now out)) neededMost) ⌝ }
+    ensures { λ r. ⌜ call (told (r .answer)) (r .carried) (now (out .exit)) ≡ expandOf (now (nine .entry)) carried (now (input .entry)) (now (out .entry)) ⌝ }
+{
+    let mut room = parts::part_room();
+    let seen = survey::survey_stream(nine, carried.high_mask, input, limit, &mut room);
+    let access = seen.access;
+    match access {
+        Access::Denied(why) => refuse(why, carried),
+        Access::Granted => {
+            if limit < seen.count {
+                return refuse(Refusal::ShortOutput, carried);
+            }
+            write(nine, carried, input, seen.count, &mut room, out)
+        }
+    }
+}
+
+// The same where no word is a REPLAY, by the MOP stage alone: the slots stay as they are.
+fn expand_plain(
+    nine: &[u32],
+    carried: Carried,
+    input: &[u32],
+    limit: usize,
+    out: &mut [u32],
+) -> Expanded
+    requires { ⌜ (length (now nine) ≡ 9) × (length (now input) ≤ 65536) × (limit ≡ min (length (now out)) neededMost) × (anyReplay (now nine) ≡ false) × (anyReplay (now input) ≡ false) ⌝ }
+    ensures { λ r. ⌜ call (told (r .answer)) (r .carried) (now (out .exit)) ≡ expandOf (now (nine .entry)) carried (now (input .entry)) (now (out .entry)) ⌝ }
+{
+    let over = limits::bad_rounds(nine, input);
+    if over {
+        return refuse(Refusal::BadRounds, carried);
+    }
+    let needed = count::count_stream(nine, input, limit);
+    if limit < needed {
+        return refuse(Refusal::ShortOutput, carried);
+    }
+    let high = stream::put_stream(nine, carried.high_mask, input, out);
+    let slots = carried.slots;
     let answer = Answer::Done(needed);
     let after = Carried {
         high_mask: high,
@@ -101,18 +158,11 @@ pub fn expand(nine: &[u32], carried: Carried, input: &[u32], out: &mut [u32]) ->
         return refuse(Refusal::BadLength, carried);
     }
     let limit = least(out.len(), NEEDED_MOST);
-    let mut room = parts::part_room();
-    let seen = survey::survey_stream(nine, carried.high_mask, input, limit, &mut room);
-    let access = seen.access;
-    match access {
-        Access::Denied(why) => refuse(why, carried),
-        Access::Granted => {
-            if limit < seen.count {
-                return refuse(Refusal::ShortOutput, carried);
-            }
-            write(nine, carried, input, seen.count, &mut room, out)
-        }
+    let replays = bits::either(any_replay(nine), any_replay(input));
+    if replays {
+        return expand_replayed(nine, carried, input, limit, out);
     }
+    expand_plain(nine, carried, input, limit, out)
 }
 
 // What is promised of the expander as a whole.

@@ -1,122 +1,36 @@
-// Writing what a stream gives, once it is known to be sound and to fit.
-ghost use mathlib.Core.Bool.{false, not, _&&_};
+// Writing what leaves the MOP stage for a stream, once it is known to fit: all that there is to do where no word is a REPLAY.
 ghost use mathlib.Core.Path.{_≡_};
 ghost use Prim.Native.Nat.{_+_, _≤_};
 ghost use lib.ListN.{length};
-ghost use Rattle.bits.specs.Overwrite.{over};
-ghost use Rattle.bits.specs.Field.{flag};
-ghost use Rattle.answers.specs.Answers.{accepted};
-ghost use Rattle.replay_buffer.specs.Passing.{Passes};
-ghost use Rattle.replay_buffer.specs.Replay.{anyReplay, buffer, playWords};
-ghost use Rattle.replay_buffer.specs.declared.load.Load.the-variants.{NoLoad};
-ghost use Rattle.expander.specs.Stream.{mopWords, wordOf, streamOf};
-ghost use Rattle.expander.specs.Call.{isTemplate1, overRounds, faultOf};
+ghost use Rattle.bits.specs.Overwrite.{over, Wrote};
+ghost use Rattle.expander.specs.Stream.{wordOf, streamOf};
 use crate::mask::mask_after;
-use crate::parts;
-use replay_buffer::load::Load;
-use replay_buffer::load::any_replay;
-use replay_buffer::load::is_loading;
-use replay_buffer::pass::Passed;
-use replay_buffer::pass::pass_word;
-use replay_buffer::pass::pass_words;
+use crate::parts::put_mop;
+use templates::put::put_word;
 
-// Any MOP, part by part.
-fn pass_parts(
-    nine: &[u32],
-    high: u16,
-    word: u32,
-    load: Load,
-    slots: &mut [u32],
-    room: &mut [u32],
-    at: usize,
-    out: &mut [u32],
-) -> Passed
-    requires { ⌜ (length (now nine) ≡ 9) × ((overRounds (now nine) && flag 23 word) ≡ false) × (length (now slots) ≡ 32) × (length (now room) ≡ 640) × (at + length (playWords (buffer (now slots) load) (mopWords (now nine) high word) .words) ≤ length (now out)) ⌝ }
-    ensures { λ r. ⌜ Passes (buffer (now (slots .entry)) load) (mopWords (now (nine .entry)) high word) (now (out .entry)) at (now (slots .exit)) (now (out .exit)) r ⌝ }
-{
-    let count = parts::part_count(nine, word);
-    let mut p = Passed { at, load };
-    let mut o: u32 = 0;
-    while o < count {
-        let n = parts::put_part(nine, high, word, o, room);
-        let now = p.load;
-        p = pass_words(&room[..n], now, slots, p.at, out);
-        o += 1;
-    }
-    p
-}
-
-// A MOP none of whose words is a REPLAY, while no load is on, is written where it stands.
-fn pass_mop(
-    nine: &[u32],
-    plain: bool,
-    high: u16,
-    word: u32,
-    load: Load,
-    slots: &mut [u32],
-    room: &mut [u32],
-    at: usize,
-    out: &mut [u32],
-) -> Passed
-    requires { ⌜ (length (now nine) ≡ 9) × (plain ≡ not (anyReplay (now nine))) × ((overRounds (now nine) && flag 23 word) ≡ false) × (length (now slots) ≡ 32) × (length (now room) ≡ 640) × (at + length (playWords (buffer (now slots) load) (mopWords (now nine) high word) .words) ≤ length (now out)) ⌝ }
-    ensures { λ r. ⌜ Passes (buffer (now (slots .entry)) load) (mopWords (now (nine .entry)) high word) (now (out .entry)) at (now (slots .exit)) (now (out .exit)) r ⌝ }
-{
-    let on = is_loading(load);
-    let direct = bits::both(plain, !on);
-    if direct {
-        let p = parts::put_mop(nine, high, word, at, out);
-        return Passed { at: p, load };
-    }
-    pass_parts(nine, high, word, load, slots, room, at, out)
-}
-
-// What a word of the stream gives.
-fn pass_emission(
-    nine: &[u32],
-    plain: bool,
-    high: u16,
-    word: u32,
-    load: Load,
-    slots: &mut [u32],
-    room: &mut [u32],
-    at: usize,
-    out: &mut [u32],
-) -> Passed
-    requires { ⌜ (length (now nine) ≡ 9) × (plain ≡ not (anyReplay (now nine))) × ((overRounds (now nine) && isTemplate1 word) ≡ false) × (length (now slots) ≡ 32) × (length (now room) ≡ 640) × (at + length (playWords (buffer (now slots) load) (wordOf (now nine) high word .words) .words) ≤ length (now out)) ⌝ }
-    ensures { λ r. ⌜ Passes (buffer (now (slots .entry)) load) (wordOf (now (nine .entry)) high word .words) (now (out .entry)) at (now (slots .exit)) (now (out .exit)) r ⌝ }
+fn put_emission(nine: &[u32], high: u16, word: u32, at: usize, out: &mut [u32]) -> usize
+    requires { ⌜ (length (now nine) ≡ 9) × (at + length (wordOf (now nine) high word .words) ≤ length (now out)) ⌝ }
+    ensures { λ r. ⌜ Wrote (now (out .entry)) at (wordOf (now (nine .entry)) high word .words) (now (out .exit)) r ⌝ }
 {
     match word / 16777216 % 256 {
-        1 => pass_mop(nine, plain, high, word, load, slots, room, at, out),
-        3 => Passed { at, load },
-        _ => pass_word(word, load, slots, at, out),
+        1 => put_mop(nine, high, word, at, out),
+        3 => at,
+        _ => put_word(out, at, word),
     }
 }
 
-// Internal: a whole stream, from where no load is on, from the output's start; the answer is the high mask after it.
-pub(crate) fn pass_stream(
-    nine: &[u32],
-    high: u16,
-    input: &[u32],
-    slots: &mut [u32],
-    room: &mut [u32],
-    out: &mut [u32],
-) -> u16
-    requires { ⌜ (length (now nine) ≡ 9) × (faultOf (now nine) high NoLoad (now input) ≡ accepted tt) × (length (now slots) ≡ 32) × (length (now room) ≡ 640) × (length (playWords (buffer (now slots) NoLoad) (streamOf (now nine) high (now input) .words) .words) ≤ length (now out)) ⌝ }
-    ensures mask { λ r. ⌜ r ≡ streamOf (now (nine .entry)) high (now (input .entry)) .high ⌝ }
-    ensures taken { λ _. ⌜ now (slots .exit) ≡ playWords (buffer (now (slots .entry)) NoLoad) (streamOf (now (nine .entry)) high (now (input .entry)) .words) .buffer .slots ⌝ }
-    ensures wrote { λ _. ⌜ now (out .exit) ≡ over (now (out .entry)) 0 (playWords (buffer (now (slots .entry)) NoLoad) (streamOf (now (nine .entry)) high (now (input .entry)) .words) .words) ⌝ }
+// Internal: the whole stream, from the output's start; the answer is the high mask after it.
+pub(crate) fn put_stream(nine: &[u32], high: u16, input: &[u32], out: &mut [u32]) -> u16
+    requires { ⌜ (length (now nine) ≡ 9) × (length (streamOf (now nine) high (now input) .words) ≤ length (now out)) ⌝ }
+    ensures { λ r. ⌜ r ≡ streamOf (now (nine .entry)) high (now (input .entry)) .high ⌝ }
+    ensures { λ _. ⌜ now (out .exit) ≡ over (now (out .entry)) 0 (streamOf (now (nine .entry)) high (now (input .entry)) .words) ⌝ }
 {
-    let plain = !any_replay(nine);
     let mut mask = high;
-    let mut p = Passed {
-        at: 0,
-        load: Load::NoLoad,
-    };
+    let mut p: usize = 0;
     let mut i: usize = 0;
     while i < input.len() {
         let word = input[i];
-        let now = p.load;
-        p = pass_emission(nine, plain, mask, word, now, slots, room, p.at, out);
+        p = put_emission(nine, mask, word, p, out);
         mask = mask_after(mask, word);
         i += 1;
     }

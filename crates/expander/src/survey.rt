@@ -11,6 +11,8 @@ ghost use Rattle.replay_buffer.specs.declared.load.Load.the-variants.{NoLoad};
 ghost use Rattle.expander.specs.Stream.{mopWords, wordOf, streamOf};
 ghost use Rattle.expander.specs.Call.{isTemplate1, overRounds, faultOf};
 use crate::count::count_mop;
+use crate::limits::is_template_1;
+use crate::limits::over_rounds;
 use crate::mask::mask_after;
 use crate::parts;
 use answers::Access;
@@ -26,20 +28,6 @@ use replay_buffer::survey::survey_words;
 pub(crate) struct Seen {
     pub(crate) access: Access,
     pub(crate) count: usize,
-}
-
-fn is_template_1(word: u32) -> bool
-    ensures { λ r. ⌜ r ≡ isTemplate1 word ⌝ }
-{
-    bits::both(word / 16777216 % 256 == 1, word / 8388608 % 2 == 1)
-}
-
-// Internal: whether m0 or m1 is over 127.
-fn over_rounds(nine: &[u32]) -> bool
-    requires { ⌜ length (now nine) ≡ 9 ⌝ }
-    ensures { λ r. ⌜ r ≡ overRounds (now (nine .entry)) ⌝ }
-{
-    bits::either(127 < nine[0], 127 < nine[1])
 }
 
 // A MOP none of whose words is a REPLAY, while no load is on: its words are counted and not made.

@@ -6,8 +6,8 @@ use mathlib.Core.Path.{_≡_, refl, sym, ap, _∙_}
 use native.Mathlib.Nat.{div-one}
 use native.Mathlib.Numerals.{add-one}
 use native.Mathlib.Omega.{arith}
-use lib.ListN.{length, getD, drop, set, length-append, length-set, drop-of-length-le}
-use lib.Seq.{drop-cons}
+use lib.ListN.{length, getD, take, drop, set, length-append, length-set, length-drop, drop-of-length-le, take-append-drop}
+use lib.Seq.{drop-cons, take-all}
 use borrow.Author.Tests.{ne-eqb, lt-ltb}
 use Rattle.bits.proofs.Choices.{neither}
 use Rattle.templates.specs.Templates.{wordsIf}
@@ -202,3 +202,14 @@ module _ (slots : List ℕ) (next left word : ℕ) (h : 0 < left) where
   pub taken-hidden : written (buffer slots (Taking next left false)) word ≡ []
   unfolding written
   taken-hidden = rw (lt-ltb 0 left h)
+
+-- a word that is written out and no more
+pub one-plain : (word : ℕ) → isReplay word ≡ false → anyReplay (word ∷ []) ≡ false
+unfolding anyReplay
+one-plain word h = rw h
+
+-- a list cut in two, the second part as a slice has it
+pub cut-at : (l : List ℕ) (k : ℕ) → l ≡ take k l ++ take (length l - k) (drop k l)
+cut-at l k =
+    let all : take (length l - k) (drop k l) ≡ drop k l = take-all (length l - k) (drop k l) (omega (arith, length-drop k l)) in
+    rw all (sym (take-append-drop k l))

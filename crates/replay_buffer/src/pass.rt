@@ -7,8 +7,13 @@ ghost use mathlib.Core.List.{[], _∷_};
 ghost use Rattle.replay_buffer.specs.Replay.{slotsFrom, buffer, written, writtenObeyed, slotsAfter, playWords};
 ghost use Rattle.replay_buffer.specs.Passing.{Passes};
 use crate::load::Load;
+use crate::load::any_replay;
+use crate::load::is_loading;
 use crate::load::is_replay;
+use crate::load::is_special;
+use crate::load::least;
 use crate::load::load_after;
+use crate::load::words_left;
 use templates::put::put_word;
 
 // The place past what was written, and the load.
@@ -83,8 +88,8 @@ fn store_word(word: u32, load: Load, slots: &mut [u32])
     }
 }
 
-// Internal: one word.
-pub fn pass_word(word: u32, load: Load, slots: &mut [u32], at: usize, out: &mut [u32]) -> Passed
+// A REPLAY, or a word that a load takes.
+fn pass_special(word: u32, load: Load, slots: &mut [u32], at: usize, out: &mut [u32]) -> Passed
     requires { ⌜ (length (now slots) ≡ 32) × (at + length (playWords (buffer (now slots) load) (word ∷ []) .words) ≤ length (now out)) ⌝ }
     ensures { λ r. ⌜ Passes (buffer (now (slots .entry)) load) (word ∷ []) (now (out .entry)) at (now (slots .exit)) (now (out .exit)) r ⌝ }
 {
@@ -94,14 +99,21 @@ pub fn pass_word(word: u32, load: Load, slots: &mut [u32], at: usize, out: &mut 
     Passed { at: p, load: after }
 }
 
-// Internal: words in a row.
-pub fn pass_words(
-    words: &[u32],
-    load: Load,
-    slots: &mut [u32],
-    at: usize,
-    out: &mut [u32],
-) -> Passed
+// Internal: one word.
+pub fn pass_word(word: u32, load: Load, slots: &mut [u32], at: usize, out: &mut [u32]) -> Passed
+    requires { ⌜ (length (now slots) ≡ 32) × (at + length (playWords (buffer (now slots) load) (word ∷ []) .words) ≤ length (now out)) ⌝ }
+    ensures { λ r. ⌜ Passes (buffer (now (slots .entry)) load) (word ∷ []) (now (out .entry)) at (now (slots .exit)) (now (out .exit)) r ⌝ }
+{
+    let special = is_special(load, word);
+    if special {
+        return pass_special(word, load, slots, at, out);
+    }
+    let p = put_word(out, at, word);
+    Passed { at: p, load }
+}
+
+// Words in a row, one by one.
+fn pass_each(words: &[u32], load: Load, slots: &mut [u32], at: usize, out: &mut [u32]) -> Passed
     requires { ⌜ (length (now slots) ≡ 32) × (at + length (playWords (buffer (now slots) load) (now words) .words) ≤ length (now out)) ⌝ }
     ensures { λ r. ⌜ Passes (buffer (now (slots .entry)) load) (now (words .entry)) (now (out .entry)) at (now (slots .exit)) (now (out .exit)) r ⌝ }
 {
@@ -113,4 +125,48 @@ pub fn pass_words(
         i += 1;
     }
     p
+}
+
+// Words in a row as they are.
+fn put_words(words: &[u32], at: usize, out: &mut [u32]) -> usize
+    requires { ⌜ at + length (now words) ≤ length (now out) ⌝ }
+    ensures { λ r. ⌜ Wrote (now (out .entry)) at (now (words .entry)) (now (out .exit)) r ⌝ }
+{
+    let mut p = at;
+    let mut i: usize = 0;
+    while i < words.len() {
+        p = put_word(out, p, words[i]);
+        i += 1;
+    }
+    p
+}
+
+// Words in a row: where no load is on and none is a REPLAY, as they are.
+fn pass_rest(words: &[u32], load: Load, slots: &mut [u32], at: usize, out: &mut [u32]) -> Passed
+    requires { ⌜ (length (now slots) ≡ 32) × (at + length (playWords (buffer (now slots) load) (now words) .words) ≤ length (now out)) ⌝ }
+    ensures { λ r. ⌜ Passes (buffer (now (slots .entry)) load) (now (words .entry)) (now (out .entry)) at (now (slots .exit)) (now (out .exit)) r ⌝ }
+{
+    let special = bits::either(is_loading(load), any_replay(words));
+    if special {
+        return pass_each(words, load, slots, at, out);
+    }
+    let p = put_words(words, at, out);
+    Passed { at: p, load }
+}
+
+// Internal: words in a row. Those that a load takes come first.
+pub fn pass_words(
+    words: &[u32],
+    load: Load,
+    slots: &mut [u32],
+    at: usize,
+    out: &mut [u32],
+) -> Passed
+    requires { ⌜ (length (now slots) ≡ 32) × (at + length (playWords (buffer (now slots) load) (now words) .words) ≤ length (now out)) ⌝ }
+    ensures { λ r. ⌜ Passes (buffer (now (slots .entry)) load) (now (words .entry)) (now (out .entry)) at (now (slots .exit)) (now (out .exit)) r ⌝ }
+{
+    let taken = least(words_left(load), words.len());
+    let p = pass_each(&words[..taken], load, slots, at, out);
+    let now = p.load;
+    pass_rest(&words[taken..], now, slots, p.at, out)
 }

@@ -2,11 +2,17 @@
 ghost use mathlib.Core.Path.{_≡_};
 ghost use mathlib.Core.List.{[], _∷_};
 ghost use Prim.Native.Nat.{_+_, _≤_};
+ghost use lib.ListN.{length};
 ghost use Rattle.replay_buffer.specs.Counts.{capped, givesCount, obeyedCount, Surveyed};
 use crate::load::Load;
+use crate::load::any_replay;
+use crate::load::is_loading;
 use crate::load::is_replay;
+use crate::load::is_special;
+use crate::load::least;
 use crate::load::load_after;
 use crate::load::obeyed_badly;
+use crate::load::words_left;
 
 // Whether a bad REPLAY is obeyed; the words written out so far, or one past the limit where they pass it; the load.
 pub struct Survey {
@@ -56,8 +62,8 @@ fn count_word(load: Load, word: u32) -> usize
     }
 }
 
-// Internal: one word, after `start` words that were written out.
-pub fn survey_word(word: u32, load: Load, start: usize, limit: usize) -> Survey
+// A REPLAY, or a word that a load takes.
+fn survey_special(word: u32, load: Load, start: usize, limit: usize) -> Survey
     requires { ⌜ (start ≤ limit + 1) × (limit ≤ 65536) ⌝ }
     ensures { λ s. ⌜ Surveyed load (word ∷ []) start limit s ⌝ }
 {
@@ -72,8 +78,24 @@ pub fn survey_word(word: u32, load: Load, start: usize, limit: usize) -> Survey
     }
 }
 
-// Internal: words in a row.
-pub fn survey_words(words: &[u32], load: Load, start: usize, limit: usize) -> Survey
+// Internal: one word, after `start` words that were written out.
+pub fn survey_word(word: u32, load: Load, start: usize, limit: usize) -> Survey
+    requires { ⌜ (start ≤ limit + 1) × (limit ≤ 65536) ⌝ }
+    ensures { λ s. ⌜ Surveyed load (word ∷ []) start limit s ⌝ }
+{
+    let special = is_special(load, word);
+    if special {
+        return survey_special(word, load, start, limit);
+    }
+    Survey {
+        bad: false,
+        count: cap(start + 1, limit),
+        load,
+    }
+}
+
+// Words in a row, one by one.
+fn survey_each(words: &[u32], load: Load, start: usize, limit: usize) -> Survey
     requires { ⌜ (start ≤ limit + 1) × (limit ≤ 65536) ⌝ }
     ensures { λ s. ⌜ Surveyed load (now (words .entry)) start limit s ⌝ }
 {
@@ -92,4 +114,34 @@ pub fn survey_words(words: &[u32], load: Load, start: usize, limit: usize) -> Su
         i += 1;
     }
     s
+}
+
+// Words in a row: where no load is on and none is a REPLAY, each is written out.
+fn survey_rest(words: &[u32], load: Load, start: usize, limit: usize) -> Survey
+    requires { ⌜ (start ≤ limit + 1) × (limit ≤ 65536) × (length (now words) ≤ 65536) ⌝ }
+    ensures { λ s. ⌜ Surveyed load (now (words .entry)) start limit s ⌝ }
+{
+    let special = bits::either(is_loading(load), any_replay(words));
+    if special {
+        return survey_each(words, load, start, limit);
+    }
+    Survey {
+        bad: false,
+        count: cap(start + words.len(), limit),
+        load,
+    }
+}
+
+// Internal: words in a row. Those that a load takes come first.
+pub fn survey_words(words: &[u32], load: Load, start: usize, limit: usize) -> Survey
+    requires { ⌜ (start ≤ limit + 1) × (limit ≤ 65536) × (length (now words) ≤ 65536) ⌝ }
+    ensures { λ s. ⌜ Surveyed load (now (words .entry)) start limit s ⌝ }
+{
+    let taken = least(words_left(load), words.len());
+    let s = survey_each(&words[..taken], load, start, limit);
+    if s.bad {
+        return s;
+    }
+    let now = s.load;
+    survey_rest(&words[taken..], now, s.count, limit)
 }

@@ -4,6 +4,7 @@ ghost use Prim.Native.Nat.{_+_, _≤_, _<_};
 ghost use lib.ListN.{length};
 ghost use Rattle.bits.specs.Overwrite.{Wrote};
 ghost use Rattle.templates.specs.Templates.{nth, rounds, lastWord, innerRound, outerRound, template1};
+use crate::nine::nine_words;
 use crate::put::put_pair;
 use crate::put::put_word;
 
@@ -53,11 +54,12 @@ pub fn put_template_1(nine: &[u32], at: usize, out: &mut [u32]) -> usize
     requires { ⌜ (length (now nine) ≡ 9) × (at + length (template1 (now nine)) ≤ length (now out)) ⌝ }
     ensures { λ r. ⌜ Wrote (now (out .entry)) at (template1 (now (nine .entry))) (now (out .exit)) r ⌝ }
 {
+    let words = nine_words(nine);
     let count = nine[0];
     let mut p = at;
     let mut o: u32 = 0;
     while o < count {
-        p = put_outer(nine, o, p, out);
+        p = put_outer(&words, o, p, out);
         o += 1;
     }
     p

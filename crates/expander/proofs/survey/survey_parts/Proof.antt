@@ -29,7 +29,7 @@ slice-aggregate-survey-words : tie.Need-slice-aggregate-survey-words Inv-loop μ
 slice-aggregate-survey-words c = simp length-take (omega (arith, c .before .before .before .put-part .kept .1 .1 .1 .1 .0, c .before .before .before .put-part .ensures .1, c .before .before .before .before .before .before .loop .inv .1))
 
 survey-words-requires : tie.Need-survey-words-requires Inv-loop μ-loop
-survey-words-requires c κs = (c .before .before .before .before .before .before .loop .inv .2 .small, c .before .before .before .before .before .before .before .before .before .before .pre .3)
+survey-words-requires c κs = (c .before .before .before .before .before .before .loop .inv .2 .small, c .before .before .before .before .before .before .before .before .before .before .pre .3, simp length-take (omega (arith, c .before .before .before .put-part .ensures .1)))
 
 returns : tie.Need-returns Inv-loop μ-loop
 returns c = let l = c .before .before .before .before .before .before .before .before .loop in let m = c .before .before .before .before .before .before .before .before .before .before .before .before .args .nine .now in let f = mopPart m (c .before .before .before .before .before .before .before .before .before .before .before .before .args .high) (c .before .before .before .before .before .before .before .before .before .before .before .before .args .word) in onward-stop (l .inv .2) (f (l .o)) _ (rounds-next f (l .o) (c .before .before .before .before .before .before .before .before .before .part-count .result) (c .before .before .before .before .before .before .before .loop-test .taken)) (rw (c .before .before .before .before .before .put-part .ensures .0) at (c .before .survey-words .ensures)) (c .if1 .taken)

@@ -1,46 +1,39 @@
 use Rattle.replay_buffer.proofs.Passing.{Rest, rest-start, rest-room, rest-next, rest-done, passes-kept}
-use Rattle.replay_buffer.proofs.Folds.{words-next}
+use Rattle.replay_buffer.proofs.Folds.{cut-at}
 use Rattle.replay_buffer.specs.Replay.{buffer}
-use lib.ListN.{length, getD, drop, drop-of-length-le}
+use lib.ListN.{length-take}
 use native.Mathlib.Omega.{arith}
-use mathlib.Core.List.{[], _∷_}
-use mathlib.Core.Path.{_≡_, refl, _∙_}
-use Prim.Native.Nat.{_-_, _≤_}
+use mathlib.Core.List.{append-nil}
+use mathlib.Core.Path.{_≡_, refl, sym, _∙_}
 use borrow.Author.Needs.{needs}
 use Rattle.replay_buffer.proofs.pass.pass_words.Statement.{statement}
 use Rattle.replay_buffer.proofs.pass.pass_words.Tie as tie
 
-abbrev Inv-loop : tie.InvT-loop
-Inv-loop words slots₀ at out₀ p₀ i₀ slots out p i = (i ≤ length words) × (length slots ≡ 32) × Rest (buffer slots₀ (p₀ .load)) words out₀ at slots out p (drop i words)
+slice-aggregate-pass-each : tie.Need-slice-aggregate-pass-each
+slice-aggregate-pass-each c = simp length-take (omega (arith, c .before .least .ensures))
 
-abbrev μ-loop : tie.MeasureT-loop
-μ-loop words slots₀ at out₀ p₀ i₀ slots out p i = length words - i
+pass-each-requires : tie.Need-pass-each-requires
+pass-each-requires c κs = let a = c .before .before .before .before .before .before .before .before .args in let w = a .words .now in let u = rest-start (a .slots .now) (a .load) w (a .out .now) (record { at = a .at; load = a .load }) refl (c .before .before .before .before .before .before .before .before .pre .1) in (c .before .before .before .before .before .before .before .before .pre .0, rest-room u _ _ (cut-at w (c .before .before .before .least .result)))
 
-loop-holds : tie.Need-loop-holds Inv-loop μ-loop
-loop-holds c = let a = c .before .before .before .args in (omega arith, c .before .before .before .pre .0, rest-start (a .slots .now) (a .load) (a .words .now) (a .out .now) _ refl (c .before .before .before .pre .1))
+pass-rest-requires : tie.Need-pass-rest-requires
+pass-rest-requires c κs = let a = c .before .before .before .before .before .before .before .before .before .before .before .before .before .before .before .before .args in let w = a .words .now in let u = rest-start (a .slots .now) (a .load) w (a .out .now) (record { at = a .at; load = a .load }) refl (c .before .before .before .before .before .before .before .before .before .before .before .before .before .before .before .before .pre .1) in let v = rest-next u _ _ (cut-at w (c .before .before .before .before .before .before .before .before .before .before .before .least .result)) (c .before .before .before .before .before .before .before .pass-each .ensures) in (passes-kept (c .before .before .before .before .before .before .before .pass-each .ensures) ∙ c .before .before .before .before .before .before .before .before .before .before .before .before .before .before .before .before .pre .0, v .left .room)
 
-pass-word-requires : tie.Need-pass-word-requires Inv-loop μ-loop
-pass-word-requires c κs = let l = c .before .before .before .before .loop in let w = c .before .before .before .before .before .before .before .before .args .words .now in (l .inv .1, rest-room (l .inv .2) (getD w (l .i) 0 ∷ []) _ (words-next w (l .i) (c .before .before .before .loop-test .taken)))
-
-loop-again : tie.Need-loop-again Inv-loop μ-loop
-loop-again c = let l = c .before .before .before .before .before .before .before .before .before .loop in let w = c .before .before .before .before .before .before .before .before .before .before .before .before .before .args .words .now in (omega arith, passes-kept (c .before .before .before .before .pass-word .ensures) ∙ l .inv .1, rest-next (l .inv .2) (getD w (l .i) 0 ∷ []) _ (words-next w (l .i) (c .before .before .before .before .before .before .before .before .loop-test .taken)) (c .before .before .before .before .pass-word .ensures))
-
-returns : tie.Need-returns Inv-loop μ-loop
-returns c = let l = c .before .loop in rest-done (l .inv .2) (drop-of-length-le (c .before .before .before .before .before .args .words .now) (c .loop-test .left))
+returns : tie.Need-returns
+returns c = let a = c .before .before .before .before .before .before .before .before .before .before .before .before .before .before .before .before .before .before .before .before .before .args in let w = a .words .now in let u = rest-start (a .slots .now) (a .load) w (a .out .now) (record { at = a .at; load = a .load }) refl (c .before .before .before .before .before .before .before .before .before .before .before .before .before .before .before .before .before .before .before .before .before .pre .1) in let v = rest-next u _ _ (cut-at w (c .before .before .before .before .before .before .before .before .before .before .before .before .before .before .before .before .least .result)) (c .before .before .before .before .before .before .before .before .before .before .before .before .pass-each .ensures) in rest-done (rest-next v _ _ (sym (append-nil _)) (c .before .before .before .before .pass-rest .ensures)) refl
 
 pub pass-words-spec : {M : Type 1} → statement M
 pass-words-spec =
     tie.close
     (tie.spec
-    Inv-loop
-    μ-loop
-    loop-holds
+    (λ c κs. search needs)
+    (λ c κs. search needs)
+    slice-aggregate-pass-each
+    pass-each-requires
     (λ c. search needs)
     (λ c. search needs)
-    pass-word-requires
     (λ c. search needs)
     (λ c. search needs)
-    loop-again
+    pass-rest-requires
     (λ c. search needs)
     (λ c. search needs)
     returns)

@@ -1,47 +1,36 @@
-use Rattle.replay_buffer.proofs.Surveys.{Onward, onward-start, onward-next, onward-stop, onward-done}
-use Rattle.replay_buffer.proofs.Folds.{words-next}
-use lib.ListN.{length, getD, drop, drop-of-length-le}
+use Rattle.replay_buffer.proofs.Surveys.{surveyed-then, surveyed-stop}
+use Rattle.replay_buffer.proofs.Folds.{cut-at}
+use Rattle.replay_buffer.specs.Counts.{Surveyed}
+use lib.ListN.{length-take}
 use native.Mathlib.Omega.{arith}
-use mathlib.Core.List.{[], _∷_}
-use mathlib.Core.Path.{_≡_, refl}
-use Prim.Native.Nat.{_-_, _≤_}
+use Prim.Native.Nat.{ℕ}
+use mathlib.Core.List.{List}
+use mathlib.Core.Path.{_≡_, sym, subst}
 use borrow.Author.Needs.{needs}
 use Rattle.replay_buffer.proofs.survey.survey_words.Statement.{statement}
 use Rattle.replay_buffer.proofs.survey.survey_words.Tie as tie
 
-abbrev Inv-loop : tie.InvT-loop
-Inv-loop words start limit s₀ i₀ s i = (i ≤ length words) × Onward (s₀ .load) words start limit s (drop i words)
+slice-aggregate-survey-each : tie.Need-slice-aggregate-survey-each
+slice-aggregate-survey-each c = simp length-take (omega (arith, c .before .least .ensures))
 
-abbrev μ-loop : tie.MeasureT-loop
-μ-loop words start limit s₀ i₀ s i = length words - i
+returns : tie.Need-returns
+returns c = let a = c .before .before .before .before .before .before .args in let k = c .before .before .before .least .result in subst (λ (l : List ℕ). Surveyed (a .load) l (a .start) (a .limit) (c .before .survey-each .result)) (sym (cut-at (a .words .now) k)) (surveyed-stop _ (c .before .survey-each .ensures) (c .if1 .taken))
 
-loop-holds : tie.Need-loop-holds Inv-loop μ-loop
-loop-holds c = (omega arith, onward-start (c .before .args .words .now) (c .before .args .limit) _ refl (c .before .pre .0))
-
-survey-word-requires : tie.Need-survey-word-requires Inv-loop μ-loop
-survey-word-requires c κs = (c .before .before .loop .inv .1 .small, c .before .before .before .before .pre .1)
-
-returns : tie.Need-returns Inv-loop μ-loop
-returns c = let w = c .before .before .before .before .before .before .args .words .now in let i = c .before .before .before .before .loop .i in onward-stop (c .before .before .before .before .loop .inv .1) (getD w i 0 ∷ []) _ (words-next w i (c .before .before .before .loop-test .taken)) (c .before .survey-word .ensures) (c .if1 .taken)
-
-loop-again : tie.Need-loop-again Inv-loop μ-loop
-loop-again c = let w = c .before .before .before .before .before .before .args .words .now in let i = c .before .before .before .before .loop .i in (omega arith, onward-next (c .before .before .before .before .loop .inv .1) (getD w i 0 ∷ []) _ (words-next w i (c .before .before .before .loop-test .taken)) (c .before .survey-word .ensures) (c .if1 .left))
-
-returns-2 : tie.Need-returns-2 Inv-loop μ-loop
-returns-2 c = onward-done (c .before .loop .inv .1) (drop-of-length-le (c .before .before .before .args .words .now) (c .loop-test .left))
+returns-2 : tie.Need-returns-2
+returns-2 c = let a = c .before .before .before .before .before .before .before .before .args in let k = c .before .before .before .before .before .least .result in subst (λ (l : List ℕ). Surveyed (a .load) l (a .start) (a .limit) (c .survey-rest .result)) (sym (cut-at (a .words .now) k)) (surveyed-then _ _ _ (c .before .before .before .survey-each .ensures) (c .before .before .if1 .left) (c .survey-rest .ensures))
 
 pub survey-words-spec : {M : Type 1} → statement M
 survey-words-spec =
     tie.close
     (tie.spec
-    Inv-loop
-    μ-loop
-    loop-holds
-    (λ c. search needs)
-    (λ c. search needs)
-    survey-word-requires
+    (λ c κs. search needs)
+    (λ c κs. search needs)
+    slice-aggregate-survey-each
+    (λ c κs. search needs)
     returns
     (λ c. search needs)
     (λ c. search needs)
-    loop-again
+    (λ c. search needs)
+    (λ c. search needs)
+    (λ c κs. search needs)
     returns-2)

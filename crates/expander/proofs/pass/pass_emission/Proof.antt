@@ -3,8 +3,8 @@ use Rattle.expander.proofs.Folds.{template-here, word-mop, word-config,
 use Rattle.expander.specs.Call.{overRounds}
 use mathlib.Core.Path.{refl}
 use borrow.Author.Needs.{needs}
-use Rattle.expander.proofs.stream.pass_emission.Statement.{statement}
-use Rattle.expander.proofs.stream.pass_emission.Tie as tie
+use Rattle.expander.proofs.pass.pass_emission.Statement.{statement}
+use Rattle.expander.proofs.pass.pass_emission.Tie as tie
 
 pass-mop-requires : tie.Need-pass-mop-requires
 pass-mop-requires c κs = let a = c .before .before .before .before .before .before .before .before .args in (c .before .before .before .before .before .before .before .before .pre .0, c .before .before .before .before .before .before .before .before .pre .1, template-here (overRounds (a .nine .now)) (a .word) (c .before .before .before .match .keys1) (c .before .before .before .before .before .before .before .before .pre .2), c .before .before .before .before .before .before .before .before .pre .3, c .before .before .before .before .before .before .before .before .pre .4, rw (word-mop (a .nine .now) (a .high) (a .word) (c .before .before .before .match .keys1)) at (c .before .before .before .before .before .before .before .before .pre .5))

@@ -7,8 +7,8 @@ use borrow.Author.Tests.{not-true}
 use mathlib.Core.Bool.{true, not, _&&_}
 use mathlib.Core.Path.{_≡_, refl, sym, _∙_}
 use borrow.Author.Needs.{needs}
-use Rattle.expander.proofs.stream.pass_mop.Statement.{statement}
-use Rattle.expander.proofs.stream.pass_mop.Tie as tie
+use Rattle.expander.proofs.pass.pass_mop.Statement.{statement}
+use Rattle.expander.proofs.pass.pass_mop.Tie as tie
 
 put-mop-requires : tie.Need-put-mop-requires
 put-mop-requires c κs = let a = c .before .before .before .before .before .before .before .before .args in let m = a .nine .now in let on = c .before .before .before .is-loading .result in let h : (a .plain && not on) ≡ true = sym (c .before .before .both .ensures) ∙ c .before .if1 .taken in let none = not-true (anyReplay m) (sym (c .before .before .before .before .before .before .before .before .pre .1) ∙ and-left (a .plain) (not on) h) in (c .before .before .before .before .before .before .before .before .pre .0, plain-fits (buffer (a .slots .now) (a .load)) (mopWords m (a .high) (a .word)) (sym (c .before .before .before .is-loading .ensures) ∙ not-true on (and-right (a .plain) (not on) h)) (mop-plain m none (a .high) (a .word)) (a .at) _ (c .before .before .before .before .before .before .before .before .pre .5))

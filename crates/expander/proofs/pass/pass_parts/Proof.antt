@@ -11,8 +11,8 @@ use mathlib.Core.List.{List}
 use mathlib.Core.Path.{_≡_, refl, sym, subst, _∙_}
 use Prim.Native.Nat.{_-_, _≤_}
 use borrow.Author.Needs.{needs}
-use Rattle.expander.proofs.stream.pass_parts.Statement.{statement}
-use Rattle.expander.proofs.stream.pass_parts.Tie as tie
+use Rattle.expander.proofs.pass.pass_parts.Statement.{statement}
+use Rattle.expander.proofs.pass.pass_parts.Tie as tie
 
 abbrev Inv-loop : tie.InvT-loop
 Inv-loop nine high word slots₀ room₀ at out₀ count p₀ o₀ slots room out p o = (o ≤ count) × (length slots ≡ 32) × (length room ≡ 640) × Rest (buffer slots₀ (p₀ .load)) (mopWords nine high word) out₀ at slots out p (rounds (mopPart nine high word) o (count - o))

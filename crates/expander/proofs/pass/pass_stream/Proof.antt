@@ -13,8 +13,8 @@ use mathlib.Core.Bool.{not}
 use mathlib.Core.Path.{_≡_, refl, sym, ap, _∙_}
 use Prim.Native.Nat.{_+_, _-_, _≤_}
 use borrow.Author.Needs.{needs}
-use Rattle.expander.proofs.stream.pass_stream.Statement.{statement}
-use Rattle.expander.proofs.stream.pass_stream.Tie as tie
+use Rattle.expander.proofs.pass.pass_stream.Statement.{statement}
+use Rattle.expander.proofs.pass.pass_stream.Tie as tie
 
 abbrev Inv-loop : tie.InvT-loop
 Inv-loop nine high input slots₀ room₀ out₀ plain mask₀ p₀ i₀ slots room out mask p i = (i ≤ length input) × (length slots ≡ 32) × (length room ≡ 640) × (faultOf nine mask (p .load) (drop i input) ≡ accepted tt) × (streamOf nine mask (drop i input) .high ≡ streamOf nine high input .high) × Rest (buffer slots₀ NoLoad) (streamOf nine high input .words) out₀ 0 slots out p (streamOf nine mask (drop i input) .words)

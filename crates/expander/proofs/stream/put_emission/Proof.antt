@@ -1,0 +1,37 @@
+use borrow.Author.Needs.{needs}
+use Rattle.expander.proofs.Folds.{word-mop, word-config, word-through}
+use Rattle.templates.proofs.Writing.{wrote-none}
+use Rattle.expander.proofs.stream.put_emission.Statement.{statement}
+use Rattle.expander.proofs.stream.put_emission.Tie as tie
+
+put-mop-requires : tie.Need-put-mop-requires
+put-mop-requires c κs =
+    let a = c .before .before .before .before .args in (c .before .before .before .before .pre .0, rw (word-mop (a .nine .now) (a .high) (a .word) (c .before .match .keys1)) at (c .before .before .before .before .pre .1))
+
+put-word-requires : tie.Need-put-word-requires
+put-word-requires c κs =
+    let a = c .before .before .before .before .args in rw (word-through (a .nine .now) (a .high) (a .word) (c .before .match .rest .0 .1) (c .before .match .rest .1)) at (c .before .before .before .before .pre .1)
+
+returns : tie.Need-returns
+returns c =
+    let a = c .before .before .before .before .before .before .before .args in rw (word-mop (a .nine .now) (a .high) (a .word) (c .before .before .before .before .match .keys1)) (c .before .before .put-mop .ensures)
+
+returns-2 : tie.Need-returns-2
+returns-2 c =
+    let a = c .before .before .before .args in rw (word-config (a .nine .now) (a .high) (a .word) (c .match .keys2)) (wrote-none (a .out .now) (a .at))
+
+returns-3 : tie.Need-returns-3
+returns-3 c =
+    let a = c .before .before .before .before .before .before .before .args in rw (word-through (a .nine .now) (a .high) (a .word) (c .before .before .before .before .match .rest .0 .1) (c .before .before .before .before .match .rest .1)) (c .before .before .put-word .ensures)
+
+pub put-emission-spec : {M : Type 1} → statement M
+put-emission-spec =
+    tie.close
+    (tie.spec
+    put-mop-requires
+    put-word-requires
+    (λ c. search needs)
+    returns
+    returns-2
+    (λ c. search needs)
+    returns-3)

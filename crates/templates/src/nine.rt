@@ -1,0 +1,21 @@
+// The nine words by value, so that a loop over rounds keeps them at hand while it writes.
+ghost use mathlib.Core.Path.{_≡_};
+ghost use lib.ListN.{length};
+
+// Internal: there are nine.
+pub fn nine_words(nine: &[u32]) -> [u32; 9]
+    requires { ⌜ length (now nine) ≡ 9 ⌝ }
+    ensures { λ r. ⌜ r ≡ now (nine .entry) ⌝ }
+{
+    [
+        nine[0],
+        nine[1],
+        nine[2],
+        nine[3],
+        nine[4],
+        nine[5],
+        nine[6],
+        nine[7],
+        nine[8],
+    ]
+}
