@@ -1,3 +1,4 @@
+pub mod NineWords
 pub mod Folds
 pub mod MopParts
 pub mod Plain

@@ -1,7 +1,7 @@
 -- Laws of a MOP in parts: what a part is, by the tests that the code makes, and that it has at most 640 words.
 use Prim.Native.Nat.{ℕ, _+_, _*_, _-_, _/_, _%_, _≤_}
-use mathlib.Core.Bool.{Bool, true, false, _&&_, _||_}
-use mathlib.Core.List.{List, []}
+use mathlib.Core.Bool.{Bool, true, false, cond, _&&_, _||_}
+use mathlib.Core.List.{List, [], _∷_, append-nil}
 use mathlib.Core.Path.{_≡_, refl, _∙_}
 use native.Mathlib.Nat.{div-one, sub-zero}
 use native.Mathlib.Omega.{arith}
@@ -9,42 +9,26 @@ use lib.Dec.{ltb}
 use lib.ListN.{length, take, drop}
 use lib.Seq.{take-at}
 use borrow.Author.Tests.{eq-eqb, ne-eqb, ltb-false}
-use Rattle.bits.specs.Field.{flag}
+use Rattle.bits.specs.Field.{field, flag}
 use Rattle.bits.specs.Overwrite.{over, Wrote}
-use Rattle.bits.proofs.Choices.{neither}
-use Rattle.templates.specs.Templates.{nth, rounds, groupCount, maskBit, maskRound, outerRound, template0}
+use Rattle.bits.proofs.Choices.{neither, cond-both}
+use Rattle.templates.specs.Templates.{nth, rounds, groupCount, maskBit, maskRound, lastWord, innerRound, outerRound, template0, template1}
 use Rattle.templates.proofs.Rounds.{rounds-long, outer-long, mask-group-long, groups-small}
 use Rattle.expander.specs.Call.{overRounds}
-use Rattle.expander.specs.Parts.{partCount, mopPart}
-use Rattle.expander.specs.Stream.{mopWords}
-use Rattle.expander.proofs.Folds.{mop-parts}
+use Rattle.expander.specs.Parts.{partCount, roundWords, partWords, mopPart}
+use Rattle.expander.specs.Stream.{opcode, mopWords, streamOf}
+use Rattle.expander.proofs.Folds.{mop-parts, word-mop}
 
-module _ (m : List ℕ) (high word o : ℕ) where
+over-few : (over : Bool) → (over && true) ≡ false → over ≡ false
+over-few true q = q
+over-few false q = refl
+
+module _ (m : List ℕ) (word : ℕ) where
   module _ (h : word / 8388608 % 2 ≡ 1) where
-    pub part-1 : mopPart m high word o ≡ outerRound m o
-    unfolding mopPart
-    part-1 = rw h
-
     pub parts-1 : partCount m word ≡ nth m 0
     parts-1 = rw h
 
-    rounds-few : (over : Bool) → (over && flag 23 word) ≡ false → over ≡ false
-    rounds-few over p = go over (rw h at p)
-      where
-        go : (t : Bool) → (t && true) ≡ false → t ≡ false
-        go true q = q
-        go false q = refl
-
-    pub round-small : (overRounds m && flag 23 word) ≡ false → length (outerRound m o) ≤ 640
-    round-small p =
-        let few = neither (ltb 127 (nth m 0)) (ltb 127 (nth m 1)) (rounds-few (overRounds m) p) in
-        omega (arith, outer-long m o, ltb-false 127 (nth m 1) (few .1))
-
   module _ (h : word / 8388608 % 2 ≡ 1 → ⊥) where
-    pub part-0 : mopPart m high word o ≡ template0 m (high * 65536 + word % 65536) (word / 65536 % 128)
-    unfolding mopPart
-    part-0 = simp (ne-eqb (word / 8388608 % 2) 1 h, div-one word)
-
     pub parts-0 : partCount m word ≡ 1
     parts-0 = simp (ne-eqb (word / 8388608 % 2) 1 h)
 
@@ -61,3 +45,34 @@ parts-all m high word count e = rw (sub-zero count, e) (mop-parts m high word)
 pub wrote-taken : {l vs m : List ℕ} {n : ℕ} → Wrote l 0 vs m n → take n m ≡ vs
 unfolding over
 wrote-taken {l} {vs} {m} {n} w = rw (w .list, w .placed) (take-at vs (drop (0 + length vs) l) (0 + length vs) (omega arith))
+
+-- a part is what its own nine words give
+pub part-alone : (m : List ℕ) (high word o : ℕ) → mopWords (partWords m word o) high word ≡ mopPart m high word o
+unfolding mopWords partWords mopPart rounds outerRound lastWord innerRound
+part-alone m high word o = go (flag 23 word)
+  where
+    whole : List ℕ → List ℕ
+    whole l = template0 l (high * 65536 + field 0 16 word) (field 16 7 word)
+
+    go : (t : Bool) → cond t (template1 (cond t (roundWords m o) m)) (whole (cond t (roundWords m o) m)) ≡ cond t (outerRound m o) (whole m)
+    go true = append-nil (outerRound m o)
+    go false = refl
+
+-- a stream of one MOP
+pub mop-alone : (m : List ℕ) (high word : ℕ) → opcode word ≡ 1 → streamOf m high (word ∷ []) .words ≡ mopWords m high word
+unfolding streamOf
+mop-alone m high word h = rw (word-mop m high word h) (append-nil (mopWords m high word))
+
+pub part-words-long : (m : List ℕ) (word o : ℕ) → length m ≡ 9 → length (partWords m word o) ≡ 9
+unfolding partWords
+part-words-long m word o h = cond-both (λ (l : List ℕ). length l ≡ 9) (flag 23 word) {x = roundWords m o} {y = m} refl h
+
+pub part-small : (m : List ℕ) (high word o : ℕ) → (overRounds m && flag 23 word) ≡ false → length (mopPart m high word o) ≤ 640
+unfolding mopPart
+part-small m high word o p = go (flag 23 word) refl p
+  where
+    go : (t : Bool) → flag 23 word ≡ t → (overRounds m && t) ≡ false → length (cond t (outerRound m o) (template0 m (high * 65536 + field 0 16 word) (field 16 7 word))) ≤ 640
+    go true e q =
+        let few = neither (ltb 127 (nth m 0)) (ltb 127 (nth m 1)) (over-few (overRounds m) q) in
+        omega (arith, outer-long m o, ltb-false 127 (nth m 1) (few .1))
+    go false e q = mask-small m (high * 65536 + field 0 16 word) word

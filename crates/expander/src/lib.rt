@@ -21,6 +21,7 @@ use replay_buffer::load::least;
 mod count;
 mod limits;
 mod mask;
+mod nine;
 mod parts;
 mod pass;
 mod stream;
@@ -134,11 +135,11 @@ fn expand_plain(
     if limit < needed {
         return refuse(Refusal::ShortOutput, carried);
     }
-    let high = stream::put_stream(nine, carried.high_mask, input, out);
+    let put = stream::put_stream(nine, carried.high_mask, input, 0, out);
     let slots = carried.slots;
     let answer = Answer::Done(needed);
     let after = Carried {
-        high_mask: high,
+        high_mask: put.high,
         slots,
     };
     Expanded {

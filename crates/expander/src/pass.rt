@@ -9,10 +9,11 @@ ghost use Rattle.answers.specs.Answers.{accepted};
 ghost use Rattle.replay_buffer.specs.Passing.{Passes};
 ghost use Rattle.replay_buffer.specs.Replay.{anyReplay, buffer, playWords};
 ghost use Rattle.replay_buffer.specs.declared.load.Load.the-variants.{NoLoad};
-ghost use Rattle.expander.specs.Stream.{mopWords, wordOf, streamOf};
+ghost use Rattle.expander.specs.Stream.{opcode, mopWords, wordOf, streamOf};
 ghost use Rattle.expander.specs.Call.{isTemplate1, overRounds, faultOf};
 use crate::mask::mask_after;
 use crate::parts;
+use crate::stream::put_stream;
 use replay_buffer::load::Load;
 use replay_buffer::load::any_replay;
 use replay_buffer::load::is_loading;
@@ -31,7 +32,7 @@ fn pass_parts(
     at: usize,
     out: &mut [u32],
 ) -> Passed
-    requires { ⌜ (length (now nine) ≡ 9) × ((overRounds (now nine) && flag 23 word) ≡ false) × (length (now slots) ≡ 32) × (length (now room) ≡ 640) × (at + length (playWords (buffer (now slots) load) (mopWords (now nine) high word) .words) ≤ length (now out)) ⌝ }
+    requires { ⌜ (length (now nine) ≡ 9) × ((overRounds (now nine) && flag 23 word) ≡ false) × (length (now slots) ≡ 32) × (length (now room) ≡ 640) × (at + length (playWords (buffer (now slots) load) (mopWords (now nine) high word) .words) ≤ length (now out)) × (opcode word ≡ 1) ⌝ }
     ensures { λ r. ⌜ Passes (buffer (now (slots .entry)) load) (mopWords (now (nine .entry)) high word) (now (out .entry)) at (now (slots .exit)) (now (out .exit)) r ⌝ }
 {
     let count = parts::part_count(nine, word);
@@ -58,14 +59,15 @@ fn pass_mop(
     at: usize,
     out: &mut [u32],
 ) -> Passed
-    requires { ⌜ (length (now nine) ≡ 9) × (plain ≡ not (anyReplay (now nine))) × ((overRounds (now nine) && flag 23 word) ≡ false) × (length (now slots) ≡ 32) × (length (now room) ≡ 640) × (at + length (playWords (buffer (now slots) load) (mopWords (now nine) high word) .words) ≤ length (now out)) ⌝ }
+    requires { ⌜ (length (now nine) ≡ 9) × (plain ≡ not (anyReplay (now nine))) × ((overRounds (now nine) && flag 23 word) ≡ false) × (length (now slots) ≡ 32) × (length (now room) ≡ 640) × (at + length (playWords (buffer (now slots) load) (mopWords (now nine) high word) .words) ≤ length (now out)) × (opcode word ≡ 1) ⌝ }
     ensures { λ r. ⌜ Passes (buffer (now (slots .entry)) load) (mopWords (now (nine .entry)) high word) (now (out .entry)) at (now (slots .exit)) (now (out .exit)) r ⌝ }
 {
     let on = is_loading(load);
     let direct = bits::both(plain, !on);
     if direct {
-        let p = parts::put_mop(nine, high, word, at, out);
-        return Passed { at: p, load };
+        let one = [word];
+        let put = put_stream(nine, high, &one, at, out);
+        return Passed { at: put.at, load };
     }
     pass_parts(nine, high, word, load, slots, room, at, out)
 }

@@ -2,11 +2,37 @@
 ghost use mathlib.Core.Path.{_≡_};
 ghost use Prim.Native.Nat.{_+_, _≤_};
 ghost use lib.ListN.{length};
-ghost use Rattle.bits.specs.Overwrite.{over, Wrote};
-ghost use Rattle.expander.specs.Stream.{wordOf, streamOf};
+ghost use Rattle.bits.specs.Overwrite.{Wrote};
+ghost use Rattle.expander.specs.Stream.{mopWords, wordOf, streamOf};
 use crate::mask::mask_after;
-use crate::parts::put_mop;
+use crate::nine::nine_words;
 use templates::put::put_word;
+use templates::template_0::put_template_0;
+use templates::template_1::put_template_1;
+
+// The place past what was written, and the high mask.
+pub(crate) struct Put {
+    pub(crate) at: usize,
+    pub(crate) high: u16,
+}
+
+fn put_mop(nine: &[u32], high: u16, word: u32, at: usize, out: &mut [u32]) -> usize
+    requires { ⌜ (length (now nine) ≡ 9) × (at + length (mopWords (now nine) high word) ≤ length (now out)) ⌝ }
+    ensures { λ r. ⌜ Wrote (now (out .entry)) at (mopWords (now (nine .entry)) high word) (now (out .exit)) r ⌝ }
+{
+    if word / 8388608 % 2 == 1 {
+        put_template_1(nine, at, out)
+    } else {
+        let h = high as u32;
+        put_template_0(
+            nine,
+            h * 65536 + word % 65536,
+            word / 65536 % 128 + 1,
+            at,
+            out,
+        )
+    }
+}
 
 fn put_emission(nine: &[u32], high: u16, word: u32, at: usize, out: &mut [u32]) -> usize
     requires { ⌜ (length (now nine) ≡ 9) × (at + length (wordOf (now nine) high word .words) ≤ length (now out)) ⌝ }
@@ -19,20 +45,21 @@ fn put_emission(nine: &[u32], high: u16, word: u32, at: usize, out: &mut [u32]) 
     }
 }
 
-// Internal: the whole stream, from the output's start; the answer is the high mask after it.
-pub(crate) fn put_stream(nine: &[u32], high: u16, input: &[u32], out: &mut [u32]) -> u16
-    requires { ⌜ (length (now nine) ≡ 9) × (length (streamOf (now nine) high (now input) .words) ≤ length (now out)) ⌝ }
-    ensures { λ r. ⌜ r ≡ streamOf (now (nine .entry)) high (now (input .entry)) .high ⌝ }
-    ensures { λ _. ⌜ now (out .exit) ≡ over (now (out .entry)) 0 (streamOf (now (nine .entry)) high (now (input .entry)) .words) ⌝ }
+// Internal: the whole stream, at a place of the output.
+pub(crate) fn put_stream(nine: &[u32], high: u16, input: &[u32], at: usize, out: &mut [u32]) -> Put
+    requires { ⌜ (length (now nine) ≡ 9) × (at + length (streamOf (now nine) high (now input) .words) ≤ length (now out)) ⌝ }
+    ensures { λ r. ⌜ r .high ≡ streamOf (now (nine .entry)) high (now (input .entry)) .high ⌝ }
+    ensures { λ r. ⌜ Wrote (now (out .entry)) at (streamOf (now (nine .entry)) high (now (input .entry)) .words) (now (out .exit)) (r .at) ⌝ }
 {
+    let words = nine_words(nine);
     let mut mask = high;
-    let mut p: usize = 0;
+    let mut p = at;
     let mut i: usize = 0;
     while i < input.len() {
         let word = input[i];
-        p = put_emission(nine, mask, word, p, out);
+        p = put_emission(&words, mask, word, p, out);
         mask = mask_after(mask, word);
         i += 1;
     }
-    mask
+    Put { at: p, high: mask }
 }

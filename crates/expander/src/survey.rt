@@ -8,7 +8,7 @@ ghost use Rattle.answers.specs.Answers.{accepted, told};
 ghost use Rattle.replay_buffer.specs.Counts.{capped, countAll, Surveyed};
 ghost use Rattle.replay_buffer.specs.Replay.{anyReplay, loading};
 ghost use Rattle.replay_buffer.specs.declared.load.Load.the-variants.{NoLoad};
-ghost use Rattle.expander.specs.Stream.{mopWords, wordOf, streamOf};
+ghost use Rattle.expander.specs.Stream.{opcode, mopWords, wordOf, streamOf};
 ghost use Rattle.expander.specs.Call.{isTemplate1, overRounds, faultOf};
 use crate::count::count_mop;
 use crate::limits::is_template_1;
@@ -67,7 +67,7 @@ fn survey_parts(
     limit: usize,
     room: &mut [u32],
 ) -> Survey
-    requires { ⌜ (length (now nine) ≡ 9) × ((overRounds (now nine) && flag 23 word) ≡ false) × (start ≤ limit + 1) × (limit ≤ 65536) × (length (now room) ≡ 640) ⌝ }
+    requires { ⌜ (length (now nine) ≡ 9) × ((overRounds (now nine) && flag 23 word) ≡ false) × (start ≤ limit + 1) × (limit ≤ 65536) × (length (now room) ≡ 640) × (opcode word ≡ 1) ⌝ }
     ensures { λ s. ⌜ Surveyed load (mopWords (now (nine .entry)) high word) start limit s ⌝ }
 {
     let count = parts::part_count(nine, word);
@@ -99,7 +99,7 @@ fn survey_mop(
     limit: usize,
     room: &mut [u32],
 ) -> Survey
-    requires { ⌜ (length (now nine) ≡ 9) × (plain ≡ not (anyReplay (now nine))) × ((overRounds (now nine) && flag 23 word) ≡ false) × (start ≤ limit + 1) × (limit ≤ 65536) × (length (now room) ≡ 640) ⌝ }
+    requires { ⌜ (length (now nine) ≡ 9) × (plain ≡ not (anyReplay (now nine))) × ((overRounds (now nine) && flag 23 word) ≡ false) × (start ≤ limit + 1) × (limit ≤ 65536) × (length (now room) ≡ 640) × (opcode word ≡ 1) ⌝ }
     ensures { λ s. ⌜ Surveyed load (mopWords (now (nine .entry)) high word) start limit s ⌝ }
 {
     let on = is_loading(load);

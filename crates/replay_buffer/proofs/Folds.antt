@@ -110,11 +110,7 @@ plain-count load l off none = sym (play-long (buffer [] load) l) ∙ ap (λ (p :
 
 not-replay : (load : Load) (word : ℕ) → isReplay word ≡ false → obeyedBadly load word ≡ false
 unfolding obeyedBadly
-not-replay load word h = rw h (go (loading load))
-  where
-    go : (on : Bool) → (not on && false) ≡ false
-    go true = refl
-    go false = refl
+not-replay load word h = rw h
 
 pub plain-fine : (load : Load) (l : List ℕ) → anyReplay l ≡ false → anyObeyedBadly load l ≡ false
 unfolding anyObeyedBadly anyReplay

@@ -108,7 +108,7 @@ playWords b (word ∷ l) = playedThen (playWord b word) (playWords (playWord b w
 
 -- "length 0 or over 32 in a REPLAY that is obeyed"
 unfoldable pub obeyedBadly : Load → ℕ → Bool
-obeyedBadly load word = not (loading load) && (isReplay word && (eqb (lengthOf word) 0 || ltb slotCount (lengthOf word)))
+obeyedBadly load word = isReplay word && (not (loading load) && (eqb (lengthOf word) 0 || ltb slotCount (lengthOf word)))
 
 -- the load after all of them
 unfoldable pub loadsAfter : Load → List ℕ → Load

@@ -1,7 +1,7 @@
 // A load: the words to come that slots take.
 ghost use mathlib.Core.Path.{_≡_};
 ghost use mathlib.Core.Bool.{cond, _&&_, _||_};
-ghost use Prim.Native.Nat.{_<_, min};
+ghost use Prim.Native.Nat.{_+_, _%_, _<_, min};
 ghost use Rattle.replay_buffer.specs.Replay.{isReplay, isLoad, loading, oneTaken, loadBy, loadAfter, obeyedBadly, anyReplay};
 ghost use Rattle.replay_buffer.specs.declared.load.Load.the-variants.{Taking};
 
@@ -65,6 +65,13 @@ pub fn words_left(load: Load) -> usize {
     }
 }
 
+// The slot after one.
+fn slot_after(next: u32) -> u32
+    ensures { λ r. ⌜ r ≡ (next + 1) % 32 ⌝ }
+{
+    (next % 32 + 1) % 32
+}
+
 // A load that has words to come, with one word more.
 fn one_taken(next: u32, left: u32, shown: bool) -> Load
     requires { ⌜ 0 < left ⌝ }
@@ -74,7 +81,7 @@ fn one_taken(next: u32, left: u32, shown: bool) -> Load
         return Load::NoLoad;
     }
     Load::Taking {
-        next: (next % 32 + 1) % 32,
+        next: slot_after(next),
         left: left - 1,
         shown,
     }
@@ -117,5 +124,5 @@ pub fn obeyed_badly(load: Load, word: u32) -> bool
     let length = word / 16 % 64;
     let bad = bits::either(length == 0, 32 < length);
     let on = is_loading(load);
-    bits::both(!on, bits::both(is_replay(word), bad))
+    bits::both(is_replay(word), bits::both(!on, bad))
 }

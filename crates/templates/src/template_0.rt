@@ -5,7 +5,6 @@ ghost use mathlib.Core.List.{[], _∷_};
 ghost use lib.ListN.{length};
 ghost use Rattle.bits.specs.Overwrite.{Wrote};
 ghost use Rattle.templates.specs.Templates.{rounds, wordsIf, group, maskGroup, maskRound};
-use crate::nine::nine_words;
 use crate::put::put_pair;
 use crate::put::put_word;
 
@@ -65,12 +64,11 @@ pub fn put_template_0(nine: &[u32], mask: u32, count: u32, at: usize, out: &mut 
     requires { ⌜ (length (now nine) ≡ 9) × (at + length (rounds (maskRound (now nine) mask) 0 count) ≤ length (now out)) ⌝ }
     ensures { λ r. ⌜ Wrote (now (out .entry)) at (rounds (maskRound (now (nine .entry)) mask) 0 count) (now (out .exit)) r ⌝ }
 {
-    let words = nine_words(nine);
     let mut p = at;
     let mut rest = mask;
     let mut i: u32 = 0;
     while i < count {
-        p = put_mask_group(&words, rest % 2 == 1, p, out);
+        p = put_mask_group(nine, rest % 2 == 1, p, out);
         rest = rest / 2;
         i += 1;
     }

@@ -4,7 +4,6 @@ ghost use Prim.Native.Nat.{_+_, _≤_, _<_};
 ghost use lib.ListN.{length};
 ghost use Rattle.bits.specs.Overwrite.{Wrote};
 ghost use Rattle.templates.specs.Templates.{nth, rounds, lastWord, innerRound, outerRound, template1};
-use crate::nine::nine_words;
 use crate::put::put_pair;
 use crate::put::put_word;
 
@@ -29,8 +28,8 @@ fn put_inner(nine: &[u32], last: u32, at: usize, out: &mut [u32]) -> usize
     put_pair(out, p, m5, last)
 }
 
-// The word that follows m5 in the last inner round of outer round `o`.
-fn last_word(nine: &[u32], o: u32) -> u32
+// The word that follows m5 in the last inner round of outer round `o`. Internal: there is such a round.
+pub fn last_word(nine: &[u32], o: u32) -> u32
     requires { ⌜ (length (now nine) ≡ 9) × (o < nth (now nine) 0) ⌝ }
     ensures { λ r. ⌜ r ≡ lastWord (now (nine .entry)) o ⌝ }
 {
@@ -38,8 +37,7 @@ fn last_word(nine: &[u32], o: u32) -> u32
     if o + 1 < count { nine[8] } else { nine[7] }
 }
 
-// Internal: an outer round.
-pub fn put_outer(nine: &[u32], o: u32, at: usize, out: &mut [u32]) -> usize
+fn put_outer(nine: &[u32], o: u32, at: usize, out: &mut [u32]) -> usize
     requires { ⌜ (length (now nine) ≡ 9) × (o < nth (now nine) 0) × (at + length (outerRound (now nine) o) ≤ length (now out)) ⌝ }
     ensures { λ r. ⌜ Wrote (now (out .entry)) at (outerRound (now (nine .entry)) o) (now (out .exit)) r ⌝ }
 {
@@ -54,12 +52,11 @@ pub fn put_template_1(nine: &[u32], at: usize, out: &mut [u32]) -> usize
     requires { ⌜ (length (now nine) ≡ 9) × (at + length (template1 (now nine)) ≤ length (now out)) ⌝ }
     ensures { λ r. ⌜ Wrote (now (out .entry)) at (template1 (now (nine .entry))) (now (out .exit)) r ⌝ }
 {
-    let words = nine_words(nine);
     let count = nine[0];
     let mut p = at;
     let mut o: u32 = 0;
     while o < count {
-        p = put_outer(&words, o, p, out);
+        p = put_outer(nine, o, p, out);
         o += 1;
     }
     p

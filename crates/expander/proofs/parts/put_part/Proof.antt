@@ -1,24 +1,28 @@
-use Rattle.expander.proofs.MopParts.{part-1, parts-1, part-0, round-small, mask-small, wrote-taken}
-use Prim.Native.Nat.{_+_, _*_, _/_, _%_}
+use Rattle.expander.proofs.MopParts.{part-alone, mop-alone, part-words-long, part-small, wrote-taken}
+use Rattle.expander.specs.Parts.{partWords, mopPart}
+use Rattle.expander.specs.Stream.{mopWords, streamOf}
+use lib.ListN.{length}
 use native.Mathlib.Omega.{arith}
-use mathlib.Core.Path.{_≡_, sym, _∙_}
+use Prim.Native.Nat.{ℕ}
+use mathlib.Core.List.{List, [], _∷_}
+use mathlib.Core.Path.{_≡_, sym, ap, _∙_}
 use borrow.Author.Needs.{needs}
 use Rattle.expander.proofs.parts.put_part.Statement.{statement}
 use Rattle.expander.proofs.parts.put_part.Tie as tie
 
-put-outer-requires : tie.Need-put-outer-requires
-put-outer-requires c κs = let a = c .before .before .before .before .args in let h = c .before .if1 .taken in (c .before .before .before .before .pre .0, rw (parts-1 (a .nine .now) 0 (a .word) 0 h) at (c .before .before .before .before .pre .2), omega (arith, round-small (a .nine .now) (a .high) (a .word) (a .o) h (c .before .before .before .before .pre .1), c .before .before .before .before .pre .3))
+put-stream-requires : tie.Need-put-stream-requires
+put-stream-requires c κs = let a = c .before .before .before .before .before .before .args in let m = a .nine .now in let e = mop-alone (partWords m (a .word) (a .o)) (a .high) (a .word) (c .before .before .before .before .before .before .pre .4) ∙ part-alone m (a .high) (a .word) (a .o) in rw (c .before .before .before .part-words .ensures) (part-words-long m (a .word) (a .o) (c .before .before .before .before .before .before .pre .0), omega (arith, ap length e, part-small m (a .high) (a .word) (a .o) (c .before .before .before .before .before .before .pre .1), c .before .before .before .before .before .before .pre .3))
 
 returns : tie.Need-returns
-returns c = let a = c .before .before .before .before .before .before .before .args in let h = c .before .before .before .before .if1 .taken in (wrote-taken (c .before .before .put-outer .ensures) ∙ sym (part-1 (a .nine .now) (a .high) (a .word) (a .o) h), omega (arith, c .before .before .put-outer .ensures .placed, round-small (a .nine .now) (a .high) (a .word) (a .o) h (c .before .before .before .before .before .before .before .pre .1)))
-
-put-mop-0-requires : tie.Need-put-mop-0-requires
-put-mop-0-requires c κs = let a = c .before .before .before .before .args in (c .before .before .before .before .pre .0, omega (arith, mask-small (a .nine .now) (a .high * 65536 + a .word % 65536) (a .word), c .before .before .before .before .pre .3))
-
-returns-2 : tie.Need-returns-2
-returns-2 c = let a = c .before .before .before .before .before .before .before .args in let h = c .before .before .before .before .if1 .left in (wrote-taken (c .before .before .put-mop-0 .ensures) ∙ sym (part-0 (a .nine .now) (a .high) (a .word) (a .o) h), omega (arith, c .before .before .put-mop-0 .ensures .placed, mask-small (a .nine .now) (a .high * 65536 + a .word % 65536) (a .word)))
+returns c = let a = c .before .before .before .before .before .before .before .before .before .args in let m = a .nine .now in let e = mop-alone (partWords m (a .word) (a .o)) (a .high) (a .word) (c .before .before .before .before .before .before .before .before .before .pre .4) ∙ part-alone m (a .high) (a .word) (a .o) in let w = rw (c .before .before .before .before .before .before .part-words .ensures, e) at (c .before .before .put-stream .ensures .1) in (wrote-taken w, omega (arith, w .placed, part-small m (a .high) (a .word) (a .o) (c .before .before .before .before .before .before .before .before .before .pre .1)))
 
 pub put-part-spec : {M : Type 1} → statement M
 put-part-spec =
     tie.close
-    (tie.spec put-outer-requires (λ c. search needs) returns put-mop-0-requires (λ c. search needs) returns-2)
+    (tie.spec
+    (λ c κs. search needs)
+    (λ c. search needs)
+    (λ c. search needs)
+    put-stream-requires
+    (λ c. search needs)
+    returns)

@@ -7,7 +7,7 @@ use Rattle.expander.proofs.pass.pass_emission.Statement.{statement}
 use Rattle.expander.proofs.pass.pass_emission.Tie as tie
 
 pass-mop-requires : tie.Need-pass-mop-requires
-pass-mop-requires c κs = let a = c .before .before .before .before .before .before .before .before .args in (c .before .before .before .before .before .before .before .before .pre .0, c .before .before .before .before .before .before .before .before .pre .1, template-here (overRounds (a .nine .now)) (a .word) (c .before .before .before .match .keys1) (c .before .before .before .before .before .before .before .before .pre .2), c .before .before .before .before .before .before .before .before .pre .3, c .before .before .before .before .before .before .before .before .pre .4, rw (word-mop (a .nine .now) (a .high) (a .word) (c .before .before .before .match .keys1)) at (c .before .before .before .before .before .before .before .before .pre .5))
+pass-mop-requires c κs = let a = c .before .before .before .before .before .before .before .before .args in (c .before .before .before .before .before .before .before .before .pre .0, c .before .before .before .before .before .before .before .before .pre .1, template-here (overRounds (a .nine .now)) (a .word) (c .before .before .before .match .keys1) (c .before .before .before .before .before .before .before .before .pre .2), c .before .before .before .before .before .before .before .before .pre .3, c .before .before .before .before .before .before .before .before .pre .4, rw (word-mop (a .nine .now) (a .high) (a .word) (c .before .before .before .match .keys1)) at (c .before .before .before .before .before .before .before .before .pre .5), c .before .before .before .match .keys1)
 
 pass-word-requires : tie.Need-pass-word-requires
 pass-word-requires c κs = let a = c .before .before .before .before .before .before .before .args in (c .before .before .before .before .before .before .before .pre .3, rw (word-through (a .nine .now) (a .high) (a .word) (c .before .before .match .rest .0 .1) (c .before .before .match .rest .1)) at (c .before .before .before .before .before .before .before .pre .5))

@@ -24,7 +24,7 @@ loop-holds : tie.Need-loop-holds Inv-loop μ-loop
 loop-holds c = let a = c .before .before .before .before .before .args in let m = a .nine .now in (omega arith, c .before .before .before .before .before .pre .2, c .before .before .before .before .before .pre .3, rw (← parts-all m (a .high) (a .word) (c .part-count .result) (c .part-count .ensures)) (rest-start (a .slots .now) (a .load) (mopWords m (a .high) (a .word)) (a .out .now) _ refl (c .before .before .before .before .before .pre .4)))
 
 put-part-requires : tie.Need-put-part-requires Inv-loop μ-loop
-put-part-requires c κs = (c .before .before .before .before .before .before .before .before .pre .0, c .before .before .before .before .before .before .before .before .pre .1, rw (← c .before .before .before .part-count .ensures) (c .before .loop-test .taken), c .before .before .loop .inv .2)
+put-part-requires c κs = (c .before .before .before .before .before .before .before .before .pre .0, c .before .before .before .before .before .before .before .before .pre .1, rw (← c .before .before .before .part-count .ensures) (c .before .loop-test .taken), c .before .before .loop .inv .2, c .before .before .before .before .before .before .before .before .pre .5)
 
 slice-aggregate-pass-words : tie.Need-slice-aggregate-pass-words Inv-loop μ-loop
 slice-aggregate-pass-words c = simp length-take (omega (arith, c .before .before .before .put-part .kept .1 .1 .1 .1 .0, c .before .before .before .put-part .ensures .1, c .before .before .before .before .before .before .loop .inv .2))

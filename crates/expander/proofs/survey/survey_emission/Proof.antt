@@ -7,7 +7,7 @@ use Rattle.expander.proofs.survey.survey_emission.Statement.{statement}
 use Rattle.expander.proofs.survey.survey_emission.Tie as tie
 
 survey-mop-requires : tie.Need-survey-mop-requires
-survey-mop-requires c κs = let a = c .before .before .before .before .args in (c .before .before .before .before .pre .0, c .before .before .before .before .pre .1, template-here (overRounds (a .nine .now)) (a .word) (c .before .match .keys1) (c .before .before .before .before .pre .2), c .before .before .before .before .pre .3, c .before .before .before .before .pre .4, c .before .before .before .before .pre .5)
+survey-mop-requires c κs = let a = c .before .before .before .before .args in (c .before .before .before .before .pre .0, c .before .before .before .before .pre .1, template-here (overRounds (a .nine .now)) (a .word) (c .before .match .keys1) (c .before .before .before .before .pre .2), c .before .before .before .before .pre .3, c .before .before .before .before .pre .4, c .before .before .before .before .pre .5, c .before .match .keys1)
 
 returns : tie.Need-returns
 returns c = let a = c .before .before .before .before .before .before .before .args in rw (word-mop (a .nine .now) (a .high) (a .word) (c .before .before .before .before .match .keys1)) (c .before .before .survey-mop .ensures)

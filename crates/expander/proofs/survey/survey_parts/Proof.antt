@@ -23,7 +23,7 @@ loop-holds : tie.Need-loop-holds Inv-loop μ-loop
 loop-holds c = let a = c .before .before .before .args in let m = a .nine .now in (omega arith, c .before .before .before .pre .4, rw (← parts-all m (a .high) (a .word) (c .part-count .result) (c .part-count .ensures)) (onward-start (mopWords m (a .high) (a .word)) (a .limit) _ refl (c .before .before .before .pre .2)))
 
 put-part-requires : tie.Need-put-part-requires Inv-loop μ-loop
-put-part-requires c κs = (c .before .before .before .before .before .before .pre .0, c .before .before .before .before .before .before .pre .1, rw (← c .before .before .before .part-count .ensures) (c .before .loop-test .taken), c .before .before .loop .inv .1)
+put-part-requires c κs = (c .before .before .before .before .before .before .pre .0, c .before .before .before .before .before .before .pre .1, rw (← c .before .before .before .part-count .ensures) (c .before .loop-test .taken), c .before .before .loop .inv .1, c .before .before .before .before .before .before .pre .5)
 
 slice-aggregate-survey-words : tie.Need-slice-aggregate-survey-words Inv-loop μ-loop
 slice-aggregate-survey-words c = simp length-take (omega (arith, c .before .before .before .put-part .kept .1 .1 .1 .1 .0, c .before .before .before .put-part .ensures .1, c .before .before .before .before .before .before .loop .inv .1))

@@ -5,7 +5,7 @@ use Rattle.replay_buffer.proofs.load.obeyed_badly.Tie as tie
 
 returns : tie.Need-returns
 unfolding obeyedBadly
-returns c = rw (← c .before .before .before .is-loading .ensures, ← c .before .before .is-replay .ensures, ← c .before .before .before .before .either .ensures, ← c .before .both .ensures) (c .both2 .ensures)
+returns c = rw (c .before .both .ensures, c .before .before .is-replay .ensures, c .before .before .before .is-loading .ensures, c .before .before .before .before .either .ensures) at (c .both2 .ensures)
 
 pub obeyed-badly-spec : {M : Type 1} → statement M
 obeyed-badly-spec =

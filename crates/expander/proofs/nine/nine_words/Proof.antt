@@ -1,8 +1,7 @@
-use Rattle.templates.proofs.NineWords.{nine-listed}
-use mathlib.Core.Path.{sym}
+use Rattle.expander.proofs.NineWords.{nine-listed}
 use borrow.Author.Needs.{needs}
-use Rattle.templates.proofs.nine.nine_words.Statement.{statement}
-use Rattle.templates.proofs.nine.nine_words.Tie as tie
+use Rattle.expander.proofs.nine.nine_words.Statement.{statement}
+use Rattle.expander.proofs.nine.nine_words.Tie as tie
 
 returns : tie.Need-returns
 returns c = nine-listed (c .before .before .before .before .before .before .before .before .before .args .nine .now) (c .before .before .before .before .before .before .before .before .before .pre)

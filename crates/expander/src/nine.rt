@@ -1,9 +1,9 @@
-// The nine words by value, so that a loop over rounds keeps them at hand while it writes.
+// The nine words by value, so that a loop keeps them at hand while it writes.
 ghost use mathlib.Core.Path.{_≡_};
 ghost use lib.ListN.{length};
 
 // Internal: there are nine.
-pub fn nine_words(nine: &[u32]) -> [u32; 9]
+pub(crate) fn nine_words(nine: &[u32]) -> [u32; 9]
     requires { ⌜ length (now nine) ≡ 9 ⌝ }
     ensures { λ r. ⌜ r ≡ now (nine .entry) ⌝ }
 {
