@@ -1,5 +1,5 @@
 -- Laws of refusals 7 and 13, and of the words that a stream gives at the replay stage.
-use Prim.Native.Nat.{ℕ, _+_, _≤_, _<_}
+use Prim.Native.Nat.{ℕ, suc, _+_, _≤_, _<_}
 use mathlib.Core.Bool.{Bool, true, false, cond, not, _&&_, _||_}
 use mathlib.Core.List.{List, [], _∷_, _++_}
 use mathlib.Core.Path.{_≡_, refl, sym, ap, _∙_}
@@ -9,7 +9,7 @@ use lib.ListN.{length, getD, drop, drop-of-length-le}
 use lib.Seq.{drop-cons}
 use Rattle.answers.specs.Answers.{Told, accepted, refused, provided}
 use Rattle.bits.specs.Field.{flag}
-use Rattle.bits.proofs.Choices.{neither}
+use Rattle.bits.proofs.Choices.{neither, and-left, and-right}
 use Rattle.replay_buffer.specs.Replay.{anyObeyedBadly, anyReplay, loadsAfter}
 use Rattle.replay_buffer.specs.Counts.{capped, countAll, Surveyed}
 use Rattle.replay_buffer.specs.declared.load.Load.{Load}
@@ -18,6 +18,10 @@ use Rattle.replay_buffer.proofs.Folds.{any-append, plain-fine, count-append}
 use Rattle.expander.specs.Stream.{Emission, wordOf, streamOf}
 use Rattle.expander.specs.Call.{isTemplate1, anyTemplate1, overRounds, faultOf}
 use Rattle.expander.proofs.Folds.{stream-next, stream-end}
+
+-- a test that allows what comes after it
+allowed : {A : Type 0} (t : Bool) → t ≡ false → (number : ℕ) (rest : Told A) → provided (not t) number rest ≡ rest
+allowed t h number rest = rw h
 
 -- a turn of a loop over the stream
 module _ (m : List ℕ) (high : ℕ) (load : Load) (l : List ℕ) (i : ℕ) where
@@ -30,16 +34,22 @@ module _ (m : List ℕ) (high : ℕ) (load : Load) (l : List ℕ) (i : ℕ) wher
   module _ (h : i < length l) where
     pub fault-many : (overRounds m && isTemplate1 word) ≡ true → faultOf m high load (drop i l) ≡ refused 7 []
     unfolding faultOf
-    fault-many p = rw (drop-cons l i 0 h, p)
+    fault-many p = rw (drop-cons l i 0 h, and-left (overRounds m) (isTemplate1 word) p, and-right (overRounds m) (isTemplate1 word) p)
 
     module _ (few : (overRounds m && isTemplate1 word) ≡ false) where
-      pub fault-bad : anyObeyedBadly load given ≡ true → faultOf m high load (drop i l) ≡ refused 13 []
-      unfolding faultOf
-      fault-bad p = rw (drop-cons l i 0 h, few, p)
+      abbrev later : Told (Unit {0})
+      later = faultOf m (wordOf m high word .high) (loadsAfter load given) (drop (i + 1) l)
 
-      pub fault-next : anyObeyedBadly load given ≡ false → faultOf m high load (drop i l) ≡ faultOf m (wordOf m high word .high) (loadsAfter load given) (drop (i + 1) l)
+      -- what the word gives decides
+      by-given : faultOf m high load (drop i l) ≡ provided (not (anyObeyedBadly load given)) 13 later
       unfolding faultOf
-      fault-next p = rw (add-one i, drop-cons l i 0 h, few, p)
+      by-given = rw (add-one i, drop-cons l i 0 h) (allowed (overRounds m && isTemplate1 word) few 7 (provided (not (anyObeyedBadly load given)) 13 (faultOf m (wordOf m high word .high) (loadsAfter load given) (drop (suc i) l))))
+
+      pub fault-bad : anyObeyedBadly load given ≡ true → faultOf m high load (drop i l) ≡ refused 13 []
+      fault-bad p = by-given ∙ rw p
+
+      pub fault-next : anyObeyedBadly load given ≡ false → faultOf m high load (drop i l) ≡ later
+      fault-next p = by-given ∙ allowed (anyObeyedBadly load given) p 13 later
 
     pub given-next : countAll load (streamOf m high (drop i l) .words) ≡ countAll load given + countAll (loadsAfter load given) (streamOf m (wordOf m high word .high) (drop (i + 1) l) .words)
     given-next = rw (stream-next m high l i h) (count-append load given (streamOf m (wordOf m high word .high) (drop (i + 1) l) .words))
