@@ -1,4 +1,5 @@
-"""Cases of `speed`, the program that benches/run times: a few jobs of each kind, so that what is timed is also right.
+"""Cases of `speed` and `expander_speed`, the programs that benches/run times: a few jobs of each kind, so that what is timed is
+also right.
 
 A job is numbers of 4 bytes: kind, repetitions, seed, limit, three counts of words, then the words. benches/jobs.py has what
 each kind makes of them; the streams here are drawn anew, so that nothing of benches/ is relied on.
@@ -14,7 +15,7 @@ from image import SIZE, load, save
 from machine import fresh
 from run import START, run
 
-FOLDER = 'crates/speed'
+SPEED, EXPANDER = 'crates/speed', 'crates/expander_speed'
 CONTROL = ('mutexes', 'semaphores', 'waits', 'owners', 'pointers')
 ENDS = {('finished',): 0, ('stuck',): 1, ('budget',): 2}
 
@@ -110,7 +111,7 @@ def replay_cases():
     yield expand_case(2, 5, 1, [3, 128] + nine[2:], [asm.nop()] * 2 + [asm.mop(1), asm.replay(0, 0)])
 
 
-def all_cases():
+def machine_cases():
     draws = seeded.Draws(77)
     streams = handshake(draws, 12)
     for times, seed, budget in ((1, 0, 1000000), (3, 5, 1000000), (2, 6, 150), (1, 7, 0), (0, 8, 10), (1, 9, 1000001)):
@@ -120,11 +121,18 @@ def all_cases():
     yield run_case(2, 3, 100, [[asm.setdmareg(8, 0x1234)], [asm.trnspsrcb()], []])
     yield from (save_case(*case) for case in ((1, 0, SIZE), (2, 4, SIZE + 7), (1, 4, SIZE - 1), (0, 4, 100)))
     yield from (load_case(*case) for case in ((1, 0), (2, 4), (0, 4)))
+
+
+def expander_cases():
     yield from mop_cases()
     yield from replay_cases()
 
 
+def files_of(folder, cases):
+    made = list(cases)
+    return {f'{folder}/stdin': b''.join(job for job, _ in made),
+            f'{folder}/stdout': ''.join(line + '\n' for _, line in made).encode()}
+
+
 def files():
-    made = list(all_cases())
-    return {f'{FOLDER}/stdin': b''.join(job for job, _ in made),
-            f'{FOLDER}/stdout': ''.join(line + '\n' for _, line in made).encode()}
+    return files_of(SPEED, machine_cases()) | files_of(EXPANDER, expander_cases())

@@ -1,4 +1,4 @@
--- Parts of lent words, and of the rooms.
+-- Parts of lent words, and of the room.
 use Prim.Native.Nat.{ℕ, _-_, _≤_}
 use mathlib.Core.Path.{_≡_, sym, ap, _∙_}
 use mathlib.Core.List.{List}
@@ -10,8 +10,8 @@ use Rattle.image.specs.Calls.{saveOf}
 use Rattle.whole_seeded.specs.Seeded.{seedMachine}
 use Rattle.repeated.specs.Repeats.{loadsOf}
 use Rattle.repeated.specs.Told.{loadsTold}
-use Rattle.jobs.specs.declared.Job.{Job}
-use Rattle.jobs.specs.Lines.{imageRoom, wordRoom, toldLine, loadsLine}
+use Rattle.job_lines.specs.declared.Job.{Job}
+use Rattle.jobs.specs.Lines.{imageRoom, toldLine, loadsLine}
 
 -- all that stands from a place on
 pub rest-whole : (n : ℕ) (l : List ℕ) → take (length l - n) (drop n l) ≡ drop n l
@@ -21,12 +21,6 @@ pub image-part : (n : ℕ) (r : List ℕ) → r ≡ imageRoom → n ≤ 49152 �
 unfolding imageRoom
 image-part n r e h =
     let long : length r ≡ 49152 = ap length e ∙ length-replicate {A = ℕ} 49152 0 in
-    sym (length-take-le n r (omega arith))
-
-pub word-part : (n : ℕ) (r : List ℕ) → r ≡ wordRoom → n ≤ 65536 → n ≡ length (take n r)
-unfolding wordRoom
-word-part n r e h =
-    let long : length r ≡ 65536 = ap length e ∙ length-replicate {A = ℕ} 65536 0 in
     sym (length-take-le n r (omega arith))
 
 -- what loads of an image in the room tell

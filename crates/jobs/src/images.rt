@@ -1,9 +1,9 @@
 // Jobs of saves and loads.
 ghost use mathlib.Core.Path.{_≡_};
 ghost use Rattle.jobs.specs.Lines.{imageRoom, toldLine, savesLine, loadsLine};
-use crate::Job;
-use crate::Line;
-use crate::not_done;
+use job_lines::Job;
+use job_lines::Line;
+use job_lines::not_done;
 use repeated::told::Told;
 use repeated::told::tell_loads;
 use repeated::told::tell_saves;

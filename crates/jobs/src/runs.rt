@@ -4,9 +4,9 @@ ghost use Prim.Native.Nat.{_+_, _≤_};
 ghost use lib.ListN.{length, take, drop};
 ghost use Rattle.turns.specs.Streams.{streams};
 ghost use Rattle.jobs.specs.Lines.{runLine, runsLine};
-use crate::Job;
-use crate::Line;
-use crate::words_of;
+use job_lines::Job;
+use job_lines::Line;
+use job_lines::words_of;
 use repeated_runs::tell_runs;
 
 // Internal: the second stream's words are there, and the third's are the rest.

@@ -1,4 +1,3 @@
-// Saves, loads and expansions made so many times, each on what the one before left, so that they can be timed.
-pub mod expansions;
+// Saves and loads made so many times, each on what the one before left, so that they can be timed.
 mod images;
 pub mod told;

@@ -24,11 +24,7 @@ returns-4 c = let a = c .before .before .before .before .before .args in rw (le-
 
 returns-5 : tie.Need-returns-5
 unfolding lineOf byKind
-returns-5 c = let a = c .before .before .before .before .before .args in rw (le-ltb _ _ (rw (c .before .before .before .words-of .ensures) at (c .before .before .if1 .left))) (c .do-expansions .ensures ∙ ap (λ (n : ℕ). byKind n (a .j) (a .words .now)) (sym (c .before .match .keys4)))
-
-returns-6 : tie.Need-returns-6
-unfolding lineOf byKind
-returns-6 c = rw (le-ltb _ _ (rw (c .before .before .before .words-of .ensures) at (c .before .before .if1 .left)), ne-eqb _ _ (c .before .match .rest .1), ne-eqb _ _ (c .before .match .rest .0 .1), ne-eqb _ _ (c .before .match .rest .0 .0 .1), ne-eqb _ _ (c .before .match .rest .0 .0 .0 .1)) (c .not-done2 .ensures)
+returns-5 c = rw (le-ltb _ _ (rw (c .before .before .before .words-of .ensures) at (c .before .before .if1 .left)), ne-eqb _ _ (c .before .match .rest .1), ne-eqb _ _ (c .before .match .rest .0 .1), ne-eqb _ _ (c .before .match .rest .0 .0 .1)) (c .not-done2 .ensures)
 
 pub do-job-spec : {M : Type 1} → statement M
 do-job-spec =
@@ -41,9 +37,7 @@ do-job-spec =
     (λ c κs. search needs)
     (λ c κs. search needs)
     (λ c κs. search needs)
-    (λ c κs. search needs)
     returns-2
     returns-3
     returns-4
-    returns-5
-    returns-6)
+    returns-5)

@@ -1,0 +1,21 @@
+use borrow.Author.Needs.{needs}
+use Rattle.expander_speed.proofs.expansions.line_of.Statement.{statement}
+use Rattle.expander_speed.proofs.expansions.line_of.Tie as tie
+
+returns : tie.Need-returns
+returns c = rw (c .before .answer .given .1)
+
+returns-2 : tie.Need-returns-2
+returns-2 c = rw (c .before .before .answer2 .given .1, c .refusal-number .ensures)
+
+pub line-of-spec : {M : Type 1} → statement M
+line-of-spec =
+    tie.close
+    (tie.spec
+    (λ c. search needs)
+    (λ c. search needs)
+    (λ c. search needs)
+    (λ c. search needs)
+    (λ c κs. search needs)
+    returns
+    returns-2)

@@ -1,0 +1,62 @@
+// Expands a stream as often as a job says, so that benches/run can time it, as `speed` does the other calls. Standard input is
+// jobs one after the other. A line is what the last call answered, and a checksum.
+mod expansions;
+mod repeats;
+
+ghost use mathlib.Core.Path.{_≡_};
+ghost use Rattle.expander_speed.specs.Lines.{lineOf};
+use job_lines::Job;
+use job_lines::Line;
+use job_lines::byte_buffer;
+use job_lines::next_job;
+use job_lines::not_done;
+use job_lines::read_words;
+use job_lines::told;
+use job_lines::word_buffer;
+use job_lines::words_of;
+
+// Does the job; not where its kind is another, its words are not there, or it asks for more room than there is.
+fn do_job(j: Job, words: &[u32]) -> Line
+    ensures { λ r. ⌜ r ≡ lineOf j (now (words .entry)) ⌝ }
+{
+    if words.len() < words_of(j) {
+        return not_done();
+    }
+    let kind = j.kind;
+    match kind {
+        4 => expansions::do_expansions(j, words),
+        _ => not_done(),
+    }
+}
+
+// Reads the job's words and does it; false where they are not there or too many, or it was not done.
+fn do_with_words(j: Job, room: &mut [u8], words: &mut [u32]) -> bool {
+    let n = words_of(j);
+    if words.len() < n {
+        return false;
+    }
+    if !read_words(room, &mut words[..n]) {
+        return false;
+    }
+    told(j.kind, do_job(j, words))
+}
+
+// Reads a job and does it; false where there is none.
+fn one_job(room: &mut [u8], words: &mut [u32]) -> bool {
+    let j = next_job();
+    do_with_words(j, room, words)
+}
+
+// No input uses the turns up: they are what a proved loop counts down.
+fn all_jobs(room: &mut [u8], words: &mut [u32]) {
+    let mut turns = u32::MAX;
+    while turns > 0 && one_job(room, words) {
+        turns -= 1;
+    }
+}
+
+fn main() {
+    let mut room = byte_buffer();
+    let mut words = word_buffer();
+    all_jobs(&mut room, &mut words);
+}
