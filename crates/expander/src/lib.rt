@@ -16,7 +16,7 @@ use machine::refusal::Refusal;
 use machine::sizes::STREAM_WORDS;
 use replay_buffer::SLOTS;
 use replay_buffer::load::any_replay;
-use replay_buffer::load::least;
+use replay_buffer::survey::least;
 
 mod count;
 mod limits;

@@ -58,7 +58,7 @@ oneTaken (Taking next left shown) = cond (eqb left 1) NoLoad (Taking ((next + 1)
 abbrev pub loadBy : ℕ → Load
 loadBy word = Taking (startOf word) (lengthOf word) (runsWhileLoading word)
 
--- what a word makes of the load: "a REPLAY word met while loading is stored and not obeyed"
+-- what a word makes of the load: "A REPLAY word met while loading is stored and not obeyed"
 unfoldable pub loadAfter : Load → ℕ → Load
 loadAfter load word = cond (loading load) (oneTaken load) (cond (isReplay word && isLoad word) (loadBy word) load)
 

@@ -1,7 +1,7 @@
 // A load: the words to come that slots take.
 ghost use mathlib.Core.Path.{_≡_};
 ghost use mathlib.Core.Bool.{cond, _&&_, _||_};
-ghost use Prim.Native.Nat.{_+_, _%_, _<_, min};
+ghost use Prim.Native.Nat.{_+_, _%_, _<_};
 ghost use Rattle.replay_buffer.specs.Replay.{isReplay, isLoad, loading, oneTaken, loadBy, loadAfter, obeyedBadly, anyReplay};
 ghost use Rattle.replay_buffer.specs.declared.load.Load.the-variants.{Taking};
 
@@ -48,13 +48,6 @@ pub fn is_special(load: Load, word: u32) -> bool
     ensures { λ r. ⌜ r ≡ (isReplay word || loading load) ⌝ }
 {
     bits::either(is_replay(word), is_loading(load))
-}
-
-// Internal: the lesser of two.
-pub fn least(a: usize, b: usize) -> usize
-    ensures { λ r. ⌜ r ≡ min a b ⌝ }
-{
-    if a < b { a } else { b }
 }
 
 // Internal: how many words are to come.

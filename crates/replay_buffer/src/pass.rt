@@ -11,9 +11,9 @@ use crate::load::any_replay;
 use crate::load::is_loading;
 use crate::load::is_replay;
 use crate::load::is_special;
-use crate::load::least;
 use crate::load::load_after;
 use crate::load::words_left;
+use crate::survey::least;
 use templates::put::put_word;
 
 // The place past what was written, and the load.

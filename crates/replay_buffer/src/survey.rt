@@ -1,7 +1,7 @@
 // Looking ahead: whether a bad REPLAY is obeyed, and how many words are written out. It needs no slots.
 ghost use mathlib.Core.Path.{_≡_};
 ghost use mathlib.Core.List.{[], _∷_};
-ghost use Prim.Native.Nat.{_+_, _≤_};
+ghost use Prim.Native.Nat.{_+_, _≤_, min};
 ghost use lib.ListN.{length};
 ghost use Rattle.replay_buffer.specs.Counts.{capped, givesCount, obeyedCount, Surveyed};
 use crate::load::Load;
@@ -9,7 +9,6 @@ use crate::load::any_replay;
 use crate::load::is_loading;
 use crate::load::is_replay;
 use crate::load::is_special;
-use crate::load::least;
 use crate::load::load_after;
 use crate::load::obeyed_badly;
 use crate::load::words_left;
@@ -27,6 +26,13 @@ pub fn cap(n: usize, limit: usize) -> usize
     ensures { λ r. ⌜ r ≡ capped limit n ⌝ }
 {
     if n <= limit { n } else { limit + 1 }
+}
+
+// Internal: the lesser of two.
+pub fn least(a: usize, b: usize) -> usize
+    ensures { λ r. ⌜ r ≡ min a b ⌝ }
+{
+    if a < b { a } else { b }
 }
 
 // How many words are written out for a word that no load takes.
