@@ -5,15 +5,17 @@ mod repeats;
 
 ghost use mathlib.Core.Path.{_≡_};
 ghost use Rattle.expander_speed.specs.Lines.{lineOf};
+use job_lines::JOB_BYTES;
 use job_lines::Job;
 use job_lines::Line;
 use job_lines::byte_buffer;
-use job_lines::next_job;
+use job_lines::job_in;
 use job_lines::not_done;
 use job_lines::read_words;
 use job_lines::told;
 use job_lines::word_buffer;
 use job_lines::words_of;
+use libc::STDIN_FILENO;
 
 // Does the job; not where its kind is another, its words are not there, or it asks for more room than there is.
 fn do_job(j: Job, words: &[u32]) -> Line
@@ -43,8 +45,9 @@ fn do_with_words(j: Job, room: &mut [u8], words: &mut [u32]) -> bool {
 
 // Reads a job and does it; false where there is none.
 fn one_job(room: &mut [u8], words: &mut [u32]) -> bool {
-    let j = next_job();
-    do_with_words(j, room, words)
+    let mut record = [0u8; JOB_BYTES];
+    let got = io::read_full(STDIN_FILENO, &mut record);
+    do_with_words(job_in(&record, got), room, words)
 }
 
 // No input uses the turns up: they are what a proved loop counts down.

@@ -1,8 +1,12 @@
 // A job as `speed` reads it, and a line as it writes it.
+ghost use mathlib.Core.Bool.{true, false, not};
 ghost use mathlib.Core.Path.{_≡_};
 ghost use Prim.Native.Nat.{_+_};
+ghost use lib.Dec.{eqb};
 ghost use lib.ListN.{length};
-ghost use Rattle.job_lines.specs.Lines.{notDone};
+ghost use Rattle.bits.specs.Bytes.{le};
+ghost use Rattle.format.specs.Format.{manyGet};
+ghost use Rattle.job_lines.specs.Lines.{notDone, noJob, jobIn};
 use format::number::read;
 use libc::STDIN_FILENO;
 use libc::STDOUT_FILENO;
@@ -52,30 +56,50 @@ pub const WORDS_MOST: usize = 196608;
 pub const BYTES_MOST: usize = 786432;
 
 // A job is seven numbers of 4 bytes, and then its words.
-fn job_of(record: &[u8; 28]) -> Job {
+pub const JOB_BYTES: usize = 28;
+
+// No job: one of no kind.
+fn no_job() -> Job
+    ensures { λ r. ⌜ r ≡ noJob ⌝ }
+{
     Job {
-        kind: read(record, 0, 4),
-        times: read(record, 4, 4),
-        seed: read(record, 8, 4),
-        limit: read(record, 12, 4),
-        n0: read(record, 16, 4),
-        n1: read(record, 20, 4),
-        n2: read(record, 24, 4),
+        kind: 0,
+        times: 0,
+        seed: 0,
+        limit: 0,
+        n0: 0,
+        n1: 0,
+        n2: 0,
     }
 }
 
-// The next job of standard input; where there is none, one of no kind.
-pub fn next_job() -> Job {
-    let mut record = [0u8; 28];
-    let got = io::read_full(STDIN_FILENO, &mut record);
+// The job of which `got` bytes came; none where they are too few.
+pub fn job_in(bytes: &[u8], got: usize) -> Job
+    ensures { λ r. ⌜ r ≡ jobIn got (now (bytes .entry)) ⌝ }
+{
     if got < 28 {
-        return job_of(&[0u8; 28]);
+        return no_job();
     }
-    job_of(&record)
+    if bytes.len() < 28 {
+        return no_job();
+    }
+    Job {
+        kind: read(bytes, 0, 4),
+        times: read(bytes, 4, 4),
+        seed: read(bytes, 8, 4),
+        limit: read(bytes, 12, 4),
+        n0: read(bytes, 16, 4),
+        n1: read(bytes, 20, 4),
+        n2: read(bytes, 24, 4),
+    }
 }
 
-// Fills the words from standard input, their bytes in the room lent; false where there is not room or input enough.
-pub fn read_words(room: &mut [u8], words: &mut [u32]) -> bool {
+// Fills the words from standard input, their bytes in the room lent; false, and the words as they were, where there is not room or
+// input enough. What the bytes are is the input's.
+pub fn read_words(room: &mut [u8], words: &mut [u32]) -> bool
+    ensures kept { λ r. ⌜ (r ≡ false → now (words .exit) ≡ now (words .entry)) ⌝ }
+    ensures filled { λ r. ⌜ (r ≡ true → now (words .exit) ≡ manyGet (le 4) 4 (length (now (words .entry))) (now (room .exit))) ⌝ }
+{
     let n = words.len();
     if room.len() / 4 < n {
         return false;
@@ -117,8 +141,10 @@ fn write_line(kind: u32, line: Line) {
     io::write_all(STDOUT_FILENO, b"\n");
 }
 
-// False where the job was not done.
-pub fn told(kind: u32, line: Line) -> bool {
+// Writes the line; false, and nothing is written, where the job was not done.
+pub fn told(kind: u32, line: Line) -> bool
+    ensures { λ r. ⌜ r ≡ not (eqb (line .count) 0) ⌝ }
+{
     if line.count == 0 {
         return false;
     }

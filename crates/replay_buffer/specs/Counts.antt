@@ -6,11 +6,17 @@ use mathlib.Core.List.{List, [], _∷_}
 use mathlib.Core.Path.{_≡_}
 use Rattle.replay_buffer.specs.Replay.{isReplay, isLoad, lengthOf, loading, isShown, loadAfter, loadsAfter, anyObeyedBadly}
 use Rattle.replay_buffer.specs.declared.load.Load.{Load}
+use Rattle.replay_buffer.specs.declared.load.Load.the-variants.{NoLoad, Taking}
 use Rattle.replay_buffer.specs.declared.survey.Survey.{Survey}
 
 -- a count that stops one past its limit
 abbrev pub capped : ℕ → ℕ → ℕ
 capped limit n = min n (limit + 1)
+
+-- how many words are to come
+abbrev pub wordsLeft : Load → ℕ
+wordsLeft NoLoad = 0
+wordsLeft (Taking next left shown) = left
 
 -- how many words are written out for a word that no load takes, and for any word
 unfoldable pub obeyedCount : ℕ → ℕ

@@ -3,6 +3,7 @@ ghost use mathlib.Core.Path.{_≡_};
 ghost use mathlib.Core.Bool.{cond, _&&_, _||_};
 ghost use Prim.Native.Nat.{_+_, _%_, _<_};
 ghost use Rattle.replay_buffer.specs.Replay.{isReplay, isLoad, loading, oneTaken, loadBy, loadAfter, obeyedBadly, anyReplay};
+ghost use Rattle.replay_buffer.specs.Counts.{wordsLeft};
 ghost use Rattle.replay_buffer.specs.declared.load.Load.the-variants.{Taking};
 
 // None, or the slot for the next word, how many words are to come, and whether they are written out too.
@@ -51,7 +52,9 @@ pub fn is_special(load: Load, word: u32) -> bool
 }
 
 // Internal: how many words are to come.
-pub fn words_left(load: Load) -> usize {
+pub fn words_left(load: Load) -> usize
+    ensures { λ r. ⌜ r ≡ wordsLeft load ⌝ }
+{
     match load {
         Load::NoLoad => 0,
         Load::Taking { next, left, shown } => left as usize,
