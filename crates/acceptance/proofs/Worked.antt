@@ -33,15 +33,15 @@ use Rattle.effects.specs.Marks.{marksAfter}
 use Rattle.effects.specs.Settings.{bankOf}
 use Rattle.effects.specs.Sources.{srcAAfter, srcBAfter}
 use Rattle.step_rules.specs.Step.{passOf, machineAfter, stepped, stepOf}
-use Rattle.expander.specs.declared.Carried.{Carried}
+use Rattle.expander_rules.specs.declared.Carried.{Carried}
 use Rattle.replay_buffer.specs.Replay.{anyReplay}
-use Rattle.expander.specs.State.{carry, freshCarried}
-use Rattle.expander.specs.Stream.{Emission, emission, streamOf}
-use Rattle.expander.specs.Call.{call, badLength, anyTemplate1, overRounds, shortOutput, doneWith, expansion, expandOf}
-use Rattle.expander.specs.Promises.{mopCallOf}
-use Rattle.expander.proofs.Examples.{examples}
-use Rattle.expander.proofs.Plain.{stream-plain}
-use Rattle.expander.proofs.Whole.{plain-streams}
+use Rattle.expander_rules.specs.State.{carry, freshCarried}
+use Rattle.expander_rules.specs.Stream.{Emission, emission, streamOf}
+use Rattle.expander_rules.specs.Call.{call, badLength, anyTemplate1, overRounds, shortOutput, doneWith, expansion, expandOf}
+use Rattle.expander_rules.specs.Promises.{mopCallOf}
+use Rattle.expander_rules.proofs.Examples.{examples}
+use Rattle.expander_rules.proofs.Plain.{stream-plain}
+use Rattle.expander_rules.proofs.Whole.{plain-streams}
 use Rattle.dest_access.specs.DestRows.{DestStore, bankCheck, readRow32Of}
 use Rattle.acceptance.specs.Worked.{Ready, Worked, leavesGprs, leavesConfig, place, gprIn, wordPlace, wordIn}
 use Rattle.acceptance.proofs.Passing.{refusing, scalar-passes, config-passes}

@@ -19,11 +19,11 @@ use Rattle.control.specs.After.{dropLifted}
 use Rattle.effects.specs.Places.{configPlace}
 use Rattle.effects.specs.Settings.{bankOf}
 use Rattle.step_rules.specs.Step.{Step, stepped, stepOf}
-use Rattle.expander.specs.declared.Carried.{Carried}
+use Rattle.expander_rules.specs.declared.Carried.{Carried}
 use Rattle.replay_buffer.specs.Replay.{anyReplay}
-use Rattle.expander.specs.State.{freshCarried}
-use Rattle.expander.specs.Call.{expandOf}
-use Rattle.expander.specs.Call as expanding
+use Rattle.expander_rules.specs.State.{freshCarried}
+use Rattle.expander_rules.specs.Call.{expandOf}
+use Rattle.expander_rules.specs.Call as expanding
 use Rattle.dest_access.specs.DestRows.{DestStore, readRow32Of}
 
 -- a well-formed machine, one of its threads, and no wait of that thread that stalls words of block bit b

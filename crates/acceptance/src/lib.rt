@@ -13,7 +13,7 @@ ghost use Rattle.image.specs.Promises.{ImageFacts, RoundTrips};
 ghost use Rattle.gpr_access.specs.Promises.{GprPromises};
 ghost use Rattle.dest_access.specs.Promises.{DestPromises};
 ghost use Rattle.source_access.specs.Promises.{SourcePromises};
-ghost use Rattle.expander.specs.Promises.{CutAnywhere, Stages, PlainStreams, SlotsHandedBack, FreshExpander};
+ghost use Rattle.expander_rules.specs.Promises.{CutAnywhere, Stages, PlainStreams, SlotsHandedBack, FreshExpander};
 ghost use Rattle.replay_buffer.specs.Promises.{LoadsPlayBack};
 ghost use Rattle.acceptance.specs.Worked.{Worked};
 

@@ -4,11 +4,11 @@ use mathlib.Core.List.{List}
 use mathlib.Core.Path.{_≡_, sym, ap}
 use native.Mathlib.Omega.{arith}
 use lib.ListN.{length}
-use Rattle.expander.specs.Call.{Call, call, told, expandOf}
-use Rattle.expander.specs.declared.Answer.{Answer}
-use Rattle.expander.specs.declared.Answer.the-variants.{Done, Refused}
-use Rattle.expander.specs.declared.Carried.{Carried}
-use Rattle.expander.proofs.Whole.{accepted-fits}
+use Rattle.expander_rules.specs.Call.{Call, call, told, expandOf}
+use Rattle.expander_rules.specs.declared.Answer.{Answer}
+use Rattle.expander_rules.specs.declared.Answer.the-variants.{Done, Refused}
+use Rattle.expander_rules.specs.declared.Carried.{Carried}
+use Rattle.expander_rules.proofs.Whole.{accepted-fits}
 use Rattle.expand.specs.Sizes.{answered}
 
 pub answer-fits : (m : List ℕ) (c : Carried) (l out : List ℕ) (a : Answer) (after : Carried) (now : List ℕ) → call (told a) after now ≡ expandOf m c l out → answered a ≤ length out

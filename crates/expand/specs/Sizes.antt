@@ -3,8 +3,8 @@ use Prim.Native.Nat.{ℕ, _+_, _*_, _≤_}
 use mathlib.Core.List.{List}
 use mathlib.Core.Path.{_≡_}
 use lib.ListN.{length}
-use Rattle.expander.specs.declared.Answer.{Answer}
-use Rattle.expander.specs.declared.Answer.the-variants.{Done, Refused}
+use Rattle.expander_rules.specs.declared.Answer.{Answer}
+use Rattle.expander_rules.specs.declared.Answer.the-variants.{Done, Refused}
 use Rattle.expand.specs.declared.input.Sizes.{Sizes}
 use Rattle.expand.specs.declared.input.InputRead.{InputRead}
 use Rattle.expand.specs.declared.input.InputRead.the-variants.{Sound, BadAt}

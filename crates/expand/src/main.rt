@@ -8,9 +8,9 @@ ghost use Rattle.expand.specs.Sizes.{Fits, answered};
 mod input;
 mod output;
 
-use expander::Answer;
-use expander::Carried;
-use expander::Expanded;
+use expander_rules::Answer;
+use expander_rules::Carried;
+use expander_rules::Expanded;
 use format::number::read;
 use format::number::read_half;
 use format::run::read_words;

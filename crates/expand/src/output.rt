@@ -1,7 +1,7 @@
 // What is printed: a line, record 38 with what is carried, and record 39 with the words.
 ghost use Prim.Native.Nat.{_≤_};
 ghost use lib.ListN.{length};
-use expander::Carried;
+use expander_rules::Carried;
 use format::number::write_half;
 use format::run::write_head;
 use format::run::write_words;

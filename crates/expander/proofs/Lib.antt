@@ -1,8 +1,2 @@
 pub mod NineWords
-pub mod Folds
 pub mod MopParts
-pub mod Plain
-pub mod Faults
-pub mod Examples
-pub mod Calls
-pub mod Whole

@@ -2,7 +2,7 @@
 use Prim.Native.Nat.{ℕ, _+_, _*_, _-_, _/_, _%_, _≤_}
 use mathlib.Core.Bool.{Bool, true, false, cond, _&&_, _||_}
 use mathlib.Core.List.{List, [], _∷_, append-nil}
-use mathlib.Core.Path.{_≡_, refl, _∙_}
+use mathlib.Core.Path.{_≡_, refl, sym, _∙_}
 use native.Mathlib.Nat.{div-one, sub-zero}
 use native.Mathlib.Omega.{arith}
 use lib.Dec.{ltb}
@@ -14,10 +14,10 @@ use Rattle.bits.specs.Overwrite.{over, Wrote}
 use Rattle.bits.proofs.Choices.{neither, cond-both}
 use Rattle.templates.specs.Templates.{nth, rounds, groupCount, maskBit, maskRound, lastWord, innerRound, outerRound, template0, template1}
 use Rattle.templates.proofs.Rounds.{rounds-long, outer-long, mask-group-long, groups-small}
-use Rattle.expander.specs.Call.{overRounds}
+use Rattle.expander_rules.specs.Call.{overRounds}
 use Rattle.expander.specs.Parts.{partCount, roundWords, partWords, mopPart}
-use Rattle.expander.specs.Stream.{opcode, mopWords, streamOf}
-use Rattle.expander.proofs.Folds.{mop-parts, word-mop}
+use Rattle.expander_rules.specs.Stream.{opcode, mopWords, streamOf}
+use Rattle.expander_rules.proofs.Folds.{word-mop}
 
 over-few : (over : Bool) → (over && true) ≡ false → over ≡ false
 over-few true q = q
@@ -36,6 +36,18 @@ pub mask-small : (m : List ℕ) (mask word : ℕ) → length (template0 m mask (
 mask-small m mask word =
     let n : groupCount m ≤ 5 = omega arith in
     omega (arith, rounds-long (maskRound m mask) (groupCount m) (λ i. mask-group-long m (maskBit mask i)) 0 (word / 65536 % 128 + 1), groups-small word (groupCount m) n)
+
+-- a MOP is its parts
+mop-parts : (m : List ℕ) (high word : ℕ) → mopWords m high word ≡ rounds (mopPart m high word) 0 (partCount m word)
+unfolding mopWords mopPart rounds
+mop-parts m high word = go (flag 23 word)
+  where
+    whole : List ℕ
+    whole = template0 m (high * 65536 + field 0 16 word) (field 16 7 word)
+
+    go : (t : Bool) → cond t (template1 m) whole ≡ rounds (λ o. cond t (outerRound m o) whole) 0 (cond t (nth m 0) 1)
+    go true = refl
+    go false = sym (append-nil whole)
 
 -- the parts of a loop that has yet to begin
 pub parts-all : (m : List ℕ) (high word count : ℕ) → count ≡ partCount m word → mopWords m high word ≡ rounds (mopPart m high word) 0 (count - 0)

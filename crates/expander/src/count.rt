@@ -4,7 +4,7 @@ ghost use Prim.Native.Nat.{_+_, _*_, _≤_};
 ghost use lib.ListN.{length};
 ghost use Rattle.templates.specs.Templates.{groupCount, outerCount};
 ghost use Rattle.replay_buffer.specs.Counts.{capped};
-ghost use Rattle.expander.specs.Counts.{mopCount, wordCount, streamCount};
+ghost use Rattle.expander_rules.specs.Counts.{mopCount, wordCount, streamCount};
 use replay_buffer::survey::cap;
 
 // Template 1: `start` and the words of `outer` outer rounds, left by the label once the count passes the limit.

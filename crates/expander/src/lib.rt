@@ -7,11 +7,13 @@ ghost use lib.ListN.{length};
 ghost use Rattle.answers.specs.Answers.{accepted};
 ghost use Rattle.replay_buffer.specs.Replay.{anyReplay};
 ghost use Rattle.replay_buffer.specs.declared.load.Load.the-variants.{NoLoad};
-ghost use Rattle.expander.specs.declared.Answer.the-variants.{Refused};
-ghost use Rattle.expander.specs.State.{freshCarried};
-ghost use Rattle.expander.specs.Call.{told, call, faultOf, neededMost, expansionOf, doneWith, expandOf};
-ghost use Rattle.expander.specs.Promises.{CutAnywhere, ExpanderExamples, Stages, PlainStreams, SlotsHandedBack, FreshExpander};
+ghost use Rattle.expander_rules.specs.declared.Answer.the-variants.{Refused};
+ghost use Rattle.expander_rules.specs.State.{freshCarried};
+ghost use Rattle.expander_rules.specs.Call.{told, call, faultOf, neededMost, expansionOf, doneWith, expandOf};
 use answers::Access;
+use expander_rules::Answer;
+use expander_rules::Carried;
+use expander_rules::Expanded;
 use machine::refusal::Refusal;
 use machine::sizes::STREAM_WORDS;
 use replay_buffer::SLOTS;
@@ -26,23 +28,6 @@ mod parts;
 mod pass;
 mod stream;
 mod survey;
-
-// What a thread's expander carries from one call to the next: the high mask, and the slots of the replay stage.
-pub struct Carried {
-    pub high_mask: u16,
-    pub slots: [u32; SLOTS],
-}
-
-pub enum Answer {
-    // how many words were written
-    Done(usize),
-    Refused(Refusal),
-}
-
-pub struct Expanded {
-    pub answer: Answer,
-    pub carried: Carried,
-}
 
 // The most words that a call may need.
 const NEEDED_MOST: usize = 65536;
@@ -165,13 +150,3 @@ pub fn expand(nine: &[u32], carried: Carried, input: &[u32], out: &mut [u32]) ->
     }
     expand_plain(nine, carried, input, limit, out)
 }
-
-// What is promised of the expander as a whole.
-pub fn promises()
-    ensures cut { λ _. ⌜ CutAnywhere ⌝ }
-    ensures examples { λ _. ⌜ ExpanderExamples ⌝ }
-    ensures stages { λ _. ⌜ Stages ⌝ }
-    ensures plain { λ _. ⌜ PlainStreams ⌝ }
-    ensures slots { λ _. ⌜ SlotsHandedBack ⌝ }
-    ensures fresh { λ _. ⌜ FreshExpander ⌝ }
-{}

@@ -1,7 +1,7 @@
 // Refusal 7: a template 1 MOP in the stream with m0 or m1 over 127.
 ghost use mathlib.Core.Path.{_≡_};
 ghost use lib.ListN.{length};
-ghost use Rattle.expander.specs.Call.{isTemplate1, anyTemplate1, overRounds, badRounds};
+ghost use Rattle.expander_rules.specs.Call.{isTemplate1, anyTemplate1, overRounds, badRounds};
 
 // Internal: whether a word is a MOP of template 1.
 pub(crate) fn is_template_1(word: u32) -> bool

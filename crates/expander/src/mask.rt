@@ -2,7 +2,7 @@
 ghost use mathlib.Core.List.{List};
 ghost use mathlib.Core.Path.{_≡_};
 ghost use Prim.Native.Nat.{ℕ};
-ghost use Rattle.expander.specs.Stream.{wordOf};
+ghost use Rattle.expander_rules.specs.Stream.{wordOf};
 
 // Internal: MOP_CFG sets it.
 pub(crate) fn mask_after(high: u16, word: u32) -> u16

@@ -3,7 +3,7 @@ ghost use mathlib.Core.Path.{_≡_};
 ghost use Prim.Native.Nat.{_+_, _≤_};
 ghost use lib.ListN.{length};
 ghost use Rattle.bits.specs.Overwrite.{Wrote};
-ghost use Rattle.expander.specs.Stream.{mopWords, wordOf, streamOf};
+ghost use Rattle.expander_rules.specs.Stream.{mopWords, wordOf, streamOf};
 use crate::mask::mask_after;
 use crate::nine::nine_words;
 use templates::put::put_word;

@@ -6,9 +6,9 @@ use lib.Dec.{eqb, ltb}
 use lib.ListN.{length, take, drop, replicate}
 use Rattle.bits.specs.Bytes.{enc}
 use Rattle.answers.specs.Answers.{Told, accepted, refused}
-use Rattle.expander.specs.declared.Carried.{Carried}
-use Rattle.expander.specs.State.{carry, freshCarried}
-use Rattle.expander.specs.Call.{Call}
+use Rattle.expander_rules.specs.declared.Carried.{Carried}
+use Rattle.expander_rules.specs.State.{carry, freshCarried}
+use Rattle.expander_rules.specs.Call.{Call}
 use Rattle.seeded.specs.Adler.{startSums, addBytes, bytesOf, checksumOf}
 use Rattle.job_lines.specs.declared.Job.{Job}
 use Rattle.job_lines.specs.declared.Line.{Line}

@@ -2,8 +2,8 @@
 use Prim.Native.Nat.{ℕ}
 use mathlib.Core.List.{List}
 use Rattle.answers.specs.Answers.{accepted}
-use Rattle.expander.specs.declared.Carried.{Carried}
-use Rattle.expander.specs.Call.{Call, call, expandOf}
+use Rattle.expander_rules.specs.declared.Carried.{Carried}
+use Rattle.expander_rules.specs.Call.{Call, call, expandOf}
 use Rattle.repeated.specs.Again.{again}
 
 -- expansions of one stream into one output, each with what the last one carried

@@ -2,13 +2,13 @@
 ghost use mathlib.Core.Path.{_≡_};
 ghost use Prim.Native.Nat.{_+_, _%_, _≤_};
 ghost use lib.ListN.{length};
-ghost use Rattle.expander.specs.Call.{told};
-ghost use Rattle.expander.specs.State.{carry, freshCarried};
+ghost use Rattle.expander_rules.specs.Call.{told};
+ghost use Rattle.expander_rules.specs.State.{carry, freshCarried};
 ghost use Rattle.expander_speed.specs.Lines.{wordRoom, callLine, expansionLine, expansionsLine};
 use crate::repeats::repeat_expansions;
-use expander::Answer;
-use expander::Carried;
-use expander::Expanded;
+use expander_rules::Answer;
+use expander_rules::Carried;
+use expander_rules::Expanded;
 use job_lines::Job;
 use job_lines::Line;
 use job_lines::not_done;

@@ -1,10 +1,10 @@
 // Expansions of one stream into one output.
 ghost use mathlib.Core.Path.{_≡_};
-ghost use Rattle.expander.specs.Call.{told, call};
+ghost use Rattle.expander_rules.specs.Call.{told, call};
 ghost use Rattle.expander_speed.specs.Repeats.{expansionsOf};
-use expander::Answer;
-use expander::Carried;
-use expander::Expanded;
+use expander_rules::Answer;
+use expander_rules::Carried;
+use expander_rules::Expanded;
 
 // What the last call answered and carries on; no word where there is none.
 pub(crate) fn repeat_expansions(

@@ -6,9 +6,9 @@ mod draws;
 
 use case::Case;
 use draws::Replays;
-use expander::Answer;
-use expander::Carried;
-use expander::Expanded;
+use expander_rules::Answer;
+use expander_rules::Carried;
+use expander_rules::Expanded;
 use libc::STDIN_FILENO;
 use libc::STDOUT_FILENO;
 use machine::refusal::refusal_number;

@@ -12,8 +12,8 @@ use Rattle.image.proofs.Trips.{image-facts, round-trips}
 use Rattle.dest_access.proofs.DestBack.{dest-promises}
 use Rattle.gpr_access.proofs.GprBack.{gpr-promises}
 use Rattle.source_access.proofs.SourceBack.{source-promises}
-use Rattle.expander.proofs.Folds.{cut}
-use Rattle.expander.proofs.Whole.{stages, plain-streams, slots-handed-back, fresh-expander}
+use Rattle.expander_rules.proofs.Folds.{cut}
+use Rattle.expander_rules.proofs.Whole.{stages, plain-streams, slots-handed-back, fresh-expander}
 use Rattle.replay_buffer.proofs.Back.{back}
 use Rattle.acceptance.proofs.Worked.{all-worked}
 use Rattle.acceptance.proofs.promises.Statement.{statement}

@@ -1,4 +1,4 @@
-use Rattle.expander.proofs.Calls.{not-nine, long-stream}
+use Rattle.expander_rules.proofs.Calls.{not-nine, long-stream}
 use Rattle.bits.proofs.Choices.{neither}
 use mathlib.Core.Path.{_≡_, sym, _∙_}
 use borrow.Author.Needs.{needs}

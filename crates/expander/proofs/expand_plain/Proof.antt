@@ -1,8 +1,8 @@
-use Rattle.expander.proofs.Whole.{plain-streams}
-use Rattle.expander.proofs.Plain.{stream-plain}
-use Rattle.expander.proofs.Folds.{stream-long}
-use Rattle.expander.proofs.Calls.{mop-rounds, mop-little, mop-enough}
-use Rattle.expander.specs.Stream.{streamOf}
+use Rattle.expander_rules.proofs.Whole.{plain-streams}
+use Rattle.expander_rules.proofs.Plain.{stream-plain}
+use Rattle.expander_rules.proofs.Folds.{stream-long}
+use Rattle.expander_rules.proofs.Calls.{mop-rounds, mop-little, mop-enough}
+use Rattle.expander_rules.specs.Stream.{streamOf}
 use lib.ListN.{length}
 use native.Mathlib.Omega.{arith}
 use mathlib.Core.Path.{_≡_, sym, _∙_}

@@ -1,4 +1,4 @@
-use Rattle.expander.proofs.Calls.{needed-long, faulty, little-room, enough-room}
+use Rattle.expander_rules.proofs.Calls.{needed-long, faulty, little-room, enough-room}
 use lib.ListN.{length}
 use native.Mathlib.Omega.{arith}
 use mathlib.Core.Path.{_≡_, refl, sym, _∙_}

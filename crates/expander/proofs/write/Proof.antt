@@ -1,4 +1,4 @@
-use Rattle.expander.specs.Call.{expansionOf}
+use Rattle.expander_rules.specs.Call.{expansionOf}
 use native.Mathlib.Omega.{arith}
 use borrow.Author.Needs.{needs}
 use Rattle.expander.proofs.write.Statement.{statement}

@@ -1,7 +1,7 @@
 use native.Mathlib.Omega.{arith}
 use borrow.Author.Needs.{needs}
 use borrow.Author.Tests.{eq-eqb, ne-eqb}
-use Rattle.expander.specs.Counts.{mopCount}
+use Rattle.expander_rules.specs.Counts.{mopCount}
 use Rattle.templates.proofs.Rounds.{groups-small}
 use Rattle.expander.proofs.count.count_mop.Statement.{statement}
 use Rattle.expander.proofs.count.count_mop.Tie as tie

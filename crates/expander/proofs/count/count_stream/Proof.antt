@@ -3,8 +3,8 @@ use mathlib.Core.Path.{_≡_}
 use native.Mathlib.Omega.{arith}
 use lib.ListN.{length, drop}
 use borrow.Author.Needs.{needs}
-use Rattle.expander.specs.Counts.{streamCount}
-use Rattle.expander.proofs.Folds.{count-next, count-end}
+use Rattle.expander_rules.specs.Counts.{streamCount}
+use Rattle.expander_rules.proofs.Folds.{count-next, count-end}
 use Rattle.expander.proofs.count.count_stream.Statement.{statement}
 use Rattle.expander.proofs.count.count_stream.Tie as tie
 

@@ -1,7 +1,7 @@
 use native.Mathlib.Omega.{arith}
 use borrow.Author.Needs.{needs}
 use borrow.Author.Tests.{ne-eqb}
-use Rattle.expander.specs.Counts.{wordCount}
+use Rattle.expander_rules.specs.Counts.{wordCount}
 use Rattle.expander.proofs.count.count_word.Statement.{statement}
 use Rattle.expander.proofs.count.count_word.Tie as tie
 

@@ -3,8 +3,8 @@ use mathlib.Core.Path.{_≡_}
 use native.Mathlib.Omega.{arith}
 use lib.ListN.{length, drop}
 use borrow.Author.Needs.{needs}
-use Rattle.expander.specs.Call.{anyTemplate1}
-use Rattle.expander.proofs.Folds.{any-next, any-end}
+use Rattle.expander_rules.specs.Call.{anyTemplate1}
+use Rattle.expander_rules.proofs.Folds.{any-next, any-end}
 use Rattle.expander.proofs.limits.any_template_1.Statement.{statement}
 use Rattle.expander.proofs.limits.any_template_1.Tie as tie
 

@@ -1,7 +1,7 @@
 use mathlib.Core.Path.{ap, sym}
 use borrow.Author.Needs.{needs}
-use Rattle.expander.specs.Stream.{Emission}
-use Rattle.expander.proofs.Folds.{word-config, mask-kept}
+use Rattle.expander_rules.specs.Stream.{Emission}
+use Rattle.expander_rules.proofs.Folds.{word-config, mask-kept}
 use Rattle.expander.proofs.mask.mask_after.Statement.{statement}
 use Rattle.expander.proofs.mask.mask_after.Tie as tie
 

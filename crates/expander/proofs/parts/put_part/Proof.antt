@@ -1,6 +1,6 @@
 use Rattle.expander.proofs.MopParts.{part-alone, mop-alone, part-words-long, part-small, wrote-taken}
 use Rattle.expander.specs.Parts.{partWords, mopPart}
-use Rattle.expander.specs.Stream.{mopWords, streamOf}
+use Rattle.expander_rules.specs.Stream.{mopWords, streamOf}
 use lib.ListN.{length}
 use native.Mathlib.Omega.{arith}
 use Prim.Native.Nat.{ℕ}

@@ -1,6 +1,6 @@
 use Rattle.expander.proofs.MopParts.{mop-alone}
-use Rattle.expander.proofs.Plain.{mop-plain}
-use Rattle.expander.specs.Stream.{mopWords, streamOf}
+use Rattle.expander_rules.proofs.Plain.{mop-plain}
+use Rattle.expander_rules.specs.Stream.{mopWords, streamOf}
 use Rattle.replay_buffer.proofs.Passing.{plain-fits, passes-plain}
 use Rattle.replay_buffer.specs.Replay.{anyReplay, buffer}
 use Rattle.bits.proofs.Choices.{and-left, and-right}

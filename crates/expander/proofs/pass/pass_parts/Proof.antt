@@ -2,7 +2,7 @@ use Rattle.replay_buffer.proofs.Passing.{Rest, rest-start, rest-room, rest-next
 use Rattle.replay_buffer.specs.Replay.{buffer}
 use Rattle.expander.proofs.MopParts.{parts-all}
 use Rattle.expander.specs.Parts.{mopPart}
-use Rattle.expander.specs.Stream.{mopWords}
+use Rattle.expander_rules.specs.Stream.{mopWords}
 use Rattle.templates.proofs.Rounds.{rounds-next, rounds-end}
 use Rattle.templates.specs.Templates.{rounds}
 use lib.ListN.{length, length-take}

@@ -1,7 +1,7 @@
-use Rattle.expander.proofs.Faults.{sound-few, sound-fine, fault-on}
-use Rattle.expander.proofs.Folds.{stream-next, stream-end}
-use Rattle.expander.specs.Call.{faultOf}
-use Rattle.expander.specs.Stream.{Emission, wordOf, streamOf}
+use Rattle.expander_rules.proofs.Faults.{sound-few, sound-fine, fault-on}
+use Rattle.expander_rules.proofs.Folds.{stream-next, stream-end}
+use Rattle.expander_rules.specs.Call.{faultOf}
+use Rattle.expander_rules.specs.Stream.{Emission, wordOf, streamOf}
 use Rattle.replay_buffer.proofs.Passing.{Rest, rest-start, rest-room, rest-next, rest-done, passes-kept}
 use Rattle.replay_buffer.proofs.Folds.{play-load}
 use Rattle.replay_buffer.specs.declared.load.Load.the-variants.{NoLoad}

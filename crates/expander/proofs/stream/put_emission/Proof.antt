@@ -1,5 +1,5 @@
 use borrow.Author.Needs.{needs}
-use Rattle.expander.proofs.Folds.{word-mop, word-config, word-through}
+use Rattle.expander_rules.proofs.Folds.{word-mop, word-config, word-through}
 use Rattle.templates.proofs.Writing.{wrote-none}
 use Rattle.expander.proofs.stream.put_emission.Statement.{statement}
 use Rattle.expander.proofs.stream.put_emission.Tie as tie

@@ -1,4 +1,4 @@
-use Rattle.expander.proofs.Folds.{mop-template-0, mop-template-1}
+use Rattle.expander_rules.proofs.Folds.{mop-template-0, mop-template-1}
 use borrow.Author.Needs.{needs}
 use Rattle.expander.proofs.stream.put_mop.Statement.{statement}
 use Rattle.expander.proofs.stream.put_mop.Tie as tie

@@ -1,6 +1,6 @@
 use Rattle.templates.proofs.Writing.{Left, left-start, left-room, left-next, left-done}
-use Rattle.expander.proofs.Folds.{stream-next, stream-end}
-use Rattle.expander.specs.Stream.{Emission, wordOf, streamOf}
+use Rattle.expander_rules.proofs.Folds.{stream-next, stream-end}
+use Rattle.expander_rules.specs.Stream.{Emission, wordOf, streamOf}
 use lib.ListN.{length, getD, drop}
 use native.Mathlib.Omega.{arith}
 use mathlib.Core.Path.{_≡_, refl, sym, ap, _∙_}

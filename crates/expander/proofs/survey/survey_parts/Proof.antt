@@ -1,7 +1,7 @@
 use Rattle.replay_buffer.proofs.Surveys.{Onward, onward-start, onward-next, onward-stop, onward-done}
 use Rattle.expander.proofs.MopParts.{parts-all}
 use Rattle.expander.specs.Parts.{mopPart}
-use Rattle.expander.specs.Stream.{mopWords}
+use Rattle.expander_rules.specs.Stream.{mopWords}
 use Rattle.templates.proofs.Rounds.{rounds-next, rounds-end}
 use Rattle.templates.specs.Templates.{rounds}
 use lib.ListN.{length, length-take}

@@ -1,7 +1,7 @@
 use Rattle.replay_buffer.proofs.Surveys.{surveyed-plain}
-use Rattle.expander.specs.Stream.{mopWords}
-use Rattle.expander.proofs.Plain.{mop-plain}
-use Rattle.expander.proofs.Folds.{mop-long}
+use Rattle.expander_rules.specs.Stream.{mopWords}
+use Rattle.expander_rules.proofs.Plain.{mop-plain}
+use Rattle.expander_rules.proofs.Folds.{mop-long}
 use native.Mathlib.Omega.{arith}
 use mathlib.Core.Path.{refl}
 use Rattle.expander.proofs.survey.survey_plain.Statement.{statement}

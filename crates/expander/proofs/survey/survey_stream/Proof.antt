@@ -1,6 +1,6 @@
-use Rattle.expander.proofs.Faults.{fault-many, fault-bad, fault-end, fault-on, count-on, count-end}
-use Rattle.expander.specs.Call.{isTemplate1, overRounds, faultOf}
-use Rattle.expander.specs.Stream.{streamOf}
+use Rattle.expander_rules.proofs.Faults.{fault-many, fault-bad, fault-end, fault-on, count-on, count-end}
+use Rattle.expander_rules.specs.Call.{isTemplate1, overRounds, faultOf}
+use Rattle.expander_rules.specs.Stream.{streamOf}
 use Rattle.replay_buffer.specs.declared.load.Load.the-variants.{NoLoad}
 use Rattle.replay_buffer.specs.Counts.{capped, countAll}
 use Rattle.answers.specs.Answers.{accepted, refused}

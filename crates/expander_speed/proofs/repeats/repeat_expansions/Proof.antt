@@ -5,7 +5,7 @@ use native.Mathlib.Omega.{arith}
 use lib.ListN.{length}
 use Rattle.repeated.specs.Again.{again}
 use Rattle.repeated.proofs.Onward.{onward, all-done}
-use Rattle.expander.specs.Call.{told, call}
+use Rattle.expander_rules.specs.Call.{told, call}
 use Rattle.expander_speed.specs.Repeats.{expandAgain, expansionsOf}
 use Rattle.expander_speed.proofs.repeats.repeat_expansions.Statement.{statement}
 use Rattle.expander_speed.proofs.repeats.repeat_expansions.Tie as tie

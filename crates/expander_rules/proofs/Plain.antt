@@ -9,7 +9,7 @@ use Rattle.bits.proofs.Choices.{neither, cond-both}
 use Rattle.templates.specs.Templates.{nth, rounds, wordsIf, group, maskGroup, maskBit, maskRound, lastWord, innerRound, outerRound, template0, template1}
 use Rattle.replay_buffer.specs.Replay.{isReplay, anyReplay}
 use Rattle.replay_buffer.proofs.Folds.{any-append}
-use Rattle.expander.specs.Stream.{Emission, emission, opcode, mopWords, wordOf, streamOf}
+use Rattle.expander_rules.specs.Stream.{Emission, emission, opcode, mopWords, wordOf, streamOf}
 
 none-cons : (word : ℕ) (l : List ℕ) → isReplay word ≡ false → anyReplay l ≡ false → anyReplay (word ∷ l) ≡ false
 unfolding anyReplay

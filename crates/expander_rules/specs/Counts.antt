@@ -4,7 +4,7 @@ use mathlib.Core.Bool.{cond}
 use mathlib.Core.List.{List, [], _∷_}
 use lib.Dec.{eqb}
 use Rattle.bits.specs.Field.{field, flag}
-use Rattle.expander.specs.Stream.{opcode}
+use Rattle.expander_rules.specs.Stream.{opcode}
 use Rattle.templates.specs.Templates.{nth, groupCount, outerCount}
 
 unfoldable pub mopCount : List ℕ → ℕ → ℕ

@@ -1,7 +1,7 @@
--- Laws of what leaves the MOP stage for a word and for a stream, and of a MOP in parts.
+-- Laws of what leaves the MOP stage for a word and for a stream.
 use Prim.Native.Nat.{ℕ, _+_, _*_, _/_, _%_, _≤_, _<_}
 use mathlib.Core.Bool.{Bool, true, false, cond, _&&_, _||_}
-use mathlib.Core.List.{List, [], _∷_, _++_, append-assoc, append-nil}
+use mathlib.Core.List.{List, [], _∷_, _++_, append-assoc}
 use mathlib.Core.Path.{_≡_, refl, sym, ap}
 use native.Mathlib.Nat.{div-one}
 use native.Mathlib.Numerals.{add-one}
@@ -12,13 +12,12 @@ use lib.Seq.{drop-cons}
 use borrow.Author.Tests.{eq-eqb, ne-eqb}
 use Rattle.bits.specs.Field.{field, flag}
 use Rattle.bits.proofs.Choices.{cond-both}
-use Rattle.templates.specs.Templates.{groupCount, outerCount, nth, rounds, maskBit, maskRound, outerRound, template0, template1}
+use Rattle.templates.specs.Templates.{groupCount, outerCount, nth, maskBit, maskRound, outerRound, template0, template1}
 use Rattle.templates.proofs.Rounds.{rounds-long, outer-long, mask-group-long}
-use Rattle.expander.specs.Call.{isTemplate1, anyTemplate1}
-use Rattle.expander.specs.Counts.{mopCount, wordCount, streamCount}
-use Rattle.expander.specs.Parts.{partCount, mopPart}
-use Rattle.expander.specs.Promises.{CutAnywhere}
-use Rattle.expander.specs.Stream.{Emission, emission, followedBy, opcode, mopWords, wordOf, streamOf}
+use Rattle.expander_rules.specs.Call.{isTemplate1, anyTemplate1}
+use Rattle.expander_rules.specs.Counts.{mopCount, wordCount, streamCount}
+use Rattle.expander_rules.specs.Promises.{CutAnywhere}
+use Rattle.expander_rules.specs.Stream.{Emission, emission, followedBy, opcode, mopWords, wordOf, streamOf}
 
 -- a stream may be cut between any two words
 pub cut : CutAnywhere
@@ -69,18 +68,6 @@ module _ (m : List ℕ) (high word : ℕ) where
       go : (t : Bool) → length (cond t (template1 m) (template0 m mask (field 16 7 word))) ≡ cond t (nth m 0 * outerCount (nth m 1)) ((field 16 7 word + 1) * groupCount m)
       go true = rounds-long (outerRound m) (outerCount (nth m 1)) (outer-long m) 0 (nth m 0)
       go false = rounds-long (maskRound m mask) (groupCount m) (λ i. mask-group-long m (maskBit mask i)) 0 (field 16 7 word + 1)
-
-  -- a MOP is its parts
-  pub mop-parts : mopWords m high word ≡ rounds (mopPart m high word) 0 (partCount m word)
-  unfolding mopWords mopPart rounds
-  mop-parts = go (flag 23 word)
-    where
-      whole : List ℕ
-      whole = template0 m (high * 65536 + field 0 16 word) (field 16 7 word)
-
-      go : (t : Bool) → cond t (template1 m) whole ≡ rounds (λ o. cond t (outerRound m o) whole) 0 (cond t (nth m 0) 1)
-      go true = refl
-      go false = sym (append-nil whole)
 
 -- a turn of a loop over the stream, and its end
 module _ (m : List ℕ) (high : ℕ) (l : List ℕ) (i : ℕ) where

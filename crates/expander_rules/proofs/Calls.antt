@@ -12,13 +12,13 @@ use Rattle.replay_buffer.specs.Replay.{Played, buffer, playWords}
 use Rattle.replay_buffer.specs.Counts.{countAll}
 use Rattle.replay_buffer.specs.declared.load.Load.the-variants.{NoLoad}
 use Rattle.replay_buffer.proofs.Folds.{play-long}
-use Rattle.expander.specs.Call.{Call, call, badRounds, faultOf, neededMost, shortOutput, refusedBy, unlessRefused, doneWith, expansion, expansionOf, expandOf}
-use Rattle.expander.specs.Counts.{streamCount}
-use Rattle.expander.specs.Promises.{mopCallOf}
-use Rattle.expander.specs.State.{carry}
-use Rattle.expander.specs.Stream.{streamOf}
-use Rattle.expander.specs.declared.Carried.{Carried}
-use Rattle.expander.proofs.Folds.{stream-long}
+use Rattle.expander_rules.specs.Call.{Call, call, badRounds, faultOf, neededMost, shortOutput, refusedBy, unlessRefused, doneWith, expansion, expansionOf, expandOf}
+use Rattle.expander_rules.specs.Counts.{streamCount}
+use Rattle.expander_rules.specs.Promises.{mopCallOf}
+use Rattle.expander_rules.specs.State.{carry}
+use Rattle.expander_rules.specs.Stream.{streamOf}
+use Rattle.expander_rules.specs.declared.Carried.{Carried}
+use Rattle.expander_rules.proofs.Folds.{stream-long}
 
 -- the lesser of the room and 65,536 decides
 short : (out : List ℕ) (needed : ℕ) → min (length out) neededMost < needed → shortOutput out needed ≡ true

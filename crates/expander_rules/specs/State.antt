@@ -2,7 +2,7 @@
 use Prim.Native.Nat.{ℕ}
 use mathlib.Core.List.{List}
 use Rattle.replay_buffer.specs.Replay.{freshSlots}
-use Rattle.expander.specs.declared.Carried.{Carried}
+use Rattle.expander_rules.specs.declared.Carried.{Carried}
 
 abbrev pub carry : ℕ → List ℕ → Carried
 carry high s = record { «high_mask» = high; slots = s }

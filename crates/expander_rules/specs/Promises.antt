@@ -8,10 +8,10 @@ use Rattle.bits.specs.Overwrite.{over}
 use Rattle.answers.specs.Answers.{accepted}
 use Rattle.replay_buffer.specs.Replay.{slotCount, buffer, playWords, anyReplay}
 use Rattle.replay_buffer.specs.declared.load.Load.the-variants.{NoLoad}
-use Rattle.expander.specs.Stream.{emission, followedBy, streamOf}
-use Rattle.expander.specs.State.{carry, freshCarried}
-use Rattle.expander.specs.Call.{Call, call, badLength, badRounds, shortOutput, refusedBy, doneWith, expansion, expandOf}
-use Rattle.expander.specs.declared.Carried.{Carried}
+use Rattle.expander_rules.specs.Stream.{emission, followedBy, streamOf}
+use Rattle.expander_rules.specs.State.{carry, freshCarried}
+use Rattle.expander_rules.specs.Call.{Call, call, badLength, badRounds, shortOutput, refusedBy, doneWith, expansion, expandOf}
+use Rattle.expander_rules.specs.declared.Carried.{Carried}
 
 -- a stream may be cut between any two words: what leaves the MOP stage is what the first part gives and then what the second does,
 -- which goes on from the first one's high mask

@@ -15,9 +15,9 @@ use Rattle.replay_buffer.specs.Counts.{capped, countAll, Surveyed}
 use Rattle.replay_buffer.specs.declared.load.Load.{Load}
 use Rattle.replay_buffer.specs.declared.survey.Survey.{Survey}
 use Rattle.replay_buffer.proofs.Folds.{any-append, plain-fine, count-append}
-use Rattle.expander.specs.Stream.{Emission, wordOf, streamOf}
-use Rattle.expander.specs.Call.{isTemplate1, anyTemplate1, overRounds, faultOf}
-use Rattle.expander.proofs.Folds.{stream-next, stream-end}
+use Rattle.expander_rules.specs.Stream.{Emission, wordOf, streamOf}
+use Rattle.expander_rules.specs.Call.{isTemplate1, anyTemplate1, overRounds, faultOf}
+use Rattle.expander_rules.proofs.Folds.{stream-next, stream-end}
 
 -- a test that allows what comes after it
 allowed : {A : Type 0} (t : Bool) → t ≡ false → (number : ℕ) (rest : Told A) → provided (not t) number rest ≡ rest

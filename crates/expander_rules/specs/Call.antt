@@ -11,11 +11,11 @@ use Rattle.templates.specs.Templates.{nth}
 use Rattle.replay_buffer.specs.Replay.{Buffer, buffer, playWords, anyObeyedBadly, loadsAfter}
 use Rattle.replay_buffer.specs.declared.load.Load.{Load}
 use Rattle.replay_buffer.specs.declared.load.Load.the-variants.{NoLoad}
-use Rattle.expander.specs.Stream.{opcode, wordOf, streamOf}
-use Rattle.expander.specs.State.{carry}
-use Rattle.expander.specs.declared.Answer.{Answer}
-use Rattle.expander.specs.declared.Answer.the-variants.{Done, Refused}
-use Rattle.expander.specs.declared.Carried.{Carried}
+use Rattle.expander_rules.specs.Stream.{opcode, wordOf, streamOf}
+use Rattle.expander_rules.specs.State.{carry}
+use Rattle.expander_rules.specs.declared.Answer.{Answer}
+use Rattle.expander_rules.specs.declared.Answer.the-variants.{Done, Refused}
+use Rattle.expander_rules.specs.declared.Carried.{Carried}
 use Rattle.machine.specs.Sizes.{streamMost}
 
 -- the count of words written, or the number that comes back with its values

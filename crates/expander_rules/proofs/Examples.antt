@@ -1,7 +1,7 @@
 -- Document 01's worked examples, at the MOP stage, by computation.
 use mathlib.Core.Path.{refl}
-use Rattle.expander.specs.Promises.{ExpanderExamples}
-use Rattle.expander.specs.Stream.{mopWords, wordOf, streamOf}
+use Rattle.expander_rules.specs.Promises.{ExpanderExamples}
+use Rattle.expander_rules.specs.Stream.{mopWords, wordOf, streamOf}
 use Rattle.templates.specs.Templates.{rounds, group, maskGroup, maskBit, lastWord, innerRound, outerRound}
 
 pub examples : ExpanderExamples

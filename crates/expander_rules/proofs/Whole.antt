@@ -12,12 +12,12 @@ use Rattle.answers.specs.Answers.{Told, accepted, refused}
 use Rattle.replay_buffer.specs.Replay.{Played, buffer, playWords, anyReplay}
 use Rattle.replay_buffer.specs.declared.load.Load.the-variants.{NoLoad}
 use Rattle.replay_buffer.proofs.Folds.{plain-words, slots-kept}
-use Rattle.expander.specs.Call.{Call, call, badLength, anyTemplate1, overRounds, faultOf, shortOutput, refusedBy, unlessRefused, doneWith, Expansion, expansion, expansionOf, expandOf}
-use Rattle.expander.specs.Promises.{Stages, PlainStreams, SlotsHandedBack, FreshExpander, mopCallOf}
-use Rattle.expander.specs.State.{carry}
-use Rattle.expander.specs.Stream.{streamOf}
-use Rattle.expander.specs.declared.Carried.{Carried}
-use Rattle.expander.proofs.Faults.{plain-fault}
+use Rattle.expander_rules.specs.Call.{Call, call, badLength, anyTemplate1, overRounds, faultOf, shortOutput, refusedBy, unlessRefused, doneWith, Expansion, expansion, expansionOf, expandOf}
+use Rattle.expander_rules.specs.Promises.{Stages, PlainStreams, SlotsHandedBack, FreshExpander, mopCallOf}
+use Rattle.expander_rules.specs.State.{carry}
+use Rattle.expander_rules.specs.Stream.{streamOf}
+use Rattle.expander_rules.specs.declared.Carried.{Carried}
+use Rattle.expander_rules.proofs.Faults.{plain-fault}
 
 -- an accepted call has passed every test
 pub stages : Stages

@@ -1,0 +1,5 @@
+pub mod Stream
+pub mod State
+pub mod Counts
+pub mod Call
+pub mod Promises
