@@ -7,15 +7,16 @@ const SLOTS: usize = 32;
 pub struct Carried {
     pub high: u16,
     pub slots: [u32; SLOTS],
+    load: Load,
 }
 
 impl Carried {
     pub fn with_mask(high: u16) -> Carried {
-        Carried { high, slots: [0x0200_0000; SLOTS] }
+        Carried { high, slots: [0x0200_0000; SLOTS], load: NO_LOAD }
     }
 }
 
-// The words to come that slots take.
+// The words to come that slots take. Where none are to come it is as if there were no load.
 #[derive(Clone, Copy)]
 struct Load {
     next: usize,
@@ -99,9 +100,9 @@ fn count_mop(m: &[u32], word: u32) -> usize {
 }
 
 // How many words the stream gives, or the refusal's number.
-fn needed(m: &[u32], high: u16, plain: bool, stream: &[u32]) -> Result<usize, u32> {
+fn needed(m: &[u32], carried: &Carried, plain: bool, stream: &[u32]) -> Result<usize, u32> {
     let over = m[0] > 127 || m[1] > 127;
-    let (mut high, mut load, mut n) = (high, NO_LOAD, 0);
+    let (mut high, mut load, mut n) = (carried.high, carried.load, 0);
     for &word in stream {
         match word >> 24 {
             1 if over && word >> 23 & 1 == 1 => return Err(7),
@@ -180,18 +181,21 @@ fn pass(word: u32, load: &mut Load, slots: &mut [u32; SLOTS], out: &mut &mut [u3
     }
 }
 
-// The words written and what is carried afterwards, or the refusal's number.
+// A piece of a stream: the words written and what is carried afterwards, a load that goes on too, or the refusal's number.
 #[inline(never)]
 pub fn expand(m: &[u32], carried: &Carried, stream: &[u32], out: &mut [u32]) -> Result<(usize, Carried), u32> {
     if m.len() != 9 || stream.len() > 65536 {
         return Err(4);
     }
+    if carried.load.next >= SLOTS || carried.load.left > 32 {
+        return Err(10);
+    }
     let plain = !m.iter().any(|&w| is_replay(w));
-    let count = needed(m, carried.high, plain, stream)?;
+    let count = needed(m, carried, plain, stream)?;
     if count > out.len().min(65536) {
         return Err(8);
     }
-    let (mut now, mut load, mut left) = (*carried, NO_LOAD, out);
+    let (mut now, mut load, mut left) = (*carried, carried.load, out);
     for &word in stream {
         match word >> 24 {
             1 if plain && load.left == 0 && word >> 23 & 1 == 1 => template_1(m, &mut left),
@@ -206,5 +210,6 @@ pub fn expand(m: &[u32], carried: &Carried, stream: &[u32], out: &mut [u32]) -> 
             _ => pass(word, &mut load, &mut now.slots, &mut left),
         }
     }
+    now.load = load;
     Ok((count, now))
 }

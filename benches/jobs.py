@@ -4,7 +4,7 @@ A job is kind, repetitions, seed, limit and three counts of words, then the word
 1 run     three streams, the limit is the budget; the seed's stores (0: zero) with a fresh control part
 2 save    the seed's machine (0: fresh) into an output of as many bytes as the limit says
 3 load    the image of the seed's machine
-4 expand  the nine words, then the stream; the limit is the room, the seed the high mask, and the slots are fresh
+4 expand  the nine words, then the stream; the limit is the room, the seed the high mask; the slots are fresh, without a load
 """
 
 import struct

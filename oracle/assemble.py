@@ -1,5 +1,7 @@
 """Words put together from their fields, for cases and tests (document 01, "Words of the base")."""
 
+from expander import load_numbers
+
 
 def nop():
     return 0x02000000
@@ -123,11 +125,19 @@ def resume_input(image, streams, budget, positions=(0, 0, 0), following=0):
 
 
 def carried_record(carried):
-    """What the expander carries: the high mask and the slots."""
-    high, slots = carried
-    return record(38, high.to_bytes(2, 'little') + b''.join(slot.to_bytes(4, 'little') for slot in slots))
+    """What the expander carries: the high mask, the slots, and the load as a kind, the next slot, the words to come and whether
+    they are shown."""
+    high, slots, load = carried
+    kind, following, left, shown = load_numbers(load)
+    numbers = ((high, 2), *((slot, 4) for slot in slots), (kind, 1), (following, 4), (left, 4), (shown, 1))
+    return record(38, b''.join(number.to_bytes(size, 'little') for number, size in numbers))
 
 
-def expand_input(nine, carried, stream, room):
-    """Standard input of `expand`."""
-    return number_record(37, *nine) + carried_record(carried) + number_record(39, *stream) + number_record(40, room)
+def expand_input(nine, carried, piece, room):
+    """Standard input of `expand` for a piece of a stream."""
+    return number_record(37, *nine) + carried_record(carried) + number_record(39, *piece) + number_record(40, room)
+
+
+def close_input(nine, carried):
+    """Standard input of `expand` for the close after the last piece."""
+    return number_record(37, *nine) + carried_record(carried) + number_record(41)

@@ -1,19 +1,24 @@
 """Cases of the expander for crates/expander_vectors: what the program reads, and what it must write.
 
-A case is eight words of 4 bytes: seed; high mask, and the number of nine words lent from bit 16 on; the mix, a byte each (see
-`Mix`); m0; m1; words of the stream; room; the mix of REPLAYs, a byte each. All else is drawn from the seed, in the order of
-`Case`, as crates/expander_vectors draws it. Before the lines of the cases stands `fresh`, with what a fresh expander carries.
+A case is twelve words of 4 bytes: seed; high mask, and the number of nine words lent from bit 16 on; the mix, a byte each (see
+`Mix`); m0; m1; words of the stream; room; the mix of REPLAYs, a byte each; of the load that comes, whether there is one (bit 0)
+and whether it is shown (bit 1); its next slot; its words to come; and how the stream comes (see `chains`). All else is drawn
+from the seed, in the order of `Case`, as crates/expander_vectors draws it. Before the lines of the cases stands `fresh`, with
+what a fresh expander carries. A line ends with what a close comes to then.
 """
 
 import struct
 import zlib
-from itertools import chain
+from functools import cached_property
+from itertools import product
 
 from bits import bits
-from expander import FRESH, NEEDED_LIMIT, REPLAY, SLOTS, STREAM_LIMIT, Call, Carried, expand
+from expander import FRESH, NEEDED_LIMIT, REPLAY, SLOTS, STREAM_LIMIT, Call, Carried, Load, close, expand, load_numbers
+from expander import malformed
 from seeded import Draws
 
 MOST_ROOM = 65600
+WHOLE, AT_EACH_PLACE = 0, 1  # how a stream comes; else in random pieces
 NEVER = 0
 ALL = 16
 
@@ -74,31 +79,96 @@ class Mix:
 
 
 class Case:
-    def __init__(self, seed, high, mix, m0, m1, length, lent=9):
-        self.seed, self.high, self.mix, self.m0, self.m1, self.length, self.lent = seed, high, mix, m0, m1, length, lent
+    def __init__(self, seed, high, mix, m0, m1, length, lent=9, load=None):
+        self.seed, self.high, self.mix, self.m0, self.m1, self.length = seed, high, mix, m0, m1, length
+        self.lent, self.load = lent, load
         draws = Draws(seed)
         nine = states(draws, lent)
         if lent > 1:
             nine[:2] = [m0, m1]
         self.nine = nine[:2] + mix.with_replays(draws, nine[2:], mix.in_nine)
-        self.carried = Carried(high, tuple(mix.with_replays(draws, states(draws, SLOTS), mix.in_slots)))
+        self.carried = Carried(high, tuple(mix.with_replays(draws, states(draws, SLOTS), mix.in_slots)), load)
         self.stream = [mix.word(draws) for _ in range(length)]
         self.draws_left = draws.state
 
+    def but(self, **changes):
+        """The case with other arguments."""
+        names = 'seed', 'high', 'mix', 'm0', 'm1', 'length', 'lent', 'load'
+        return Case(**{**{name: getattr(self, name) for name in names}, **changes})
+
+    @cached_property
     def needed(self):
-        """How many words the stream needs; the refusal's number if it is refused whatever the room."""
+        """How many words the stream needs in one call; the refusal's number if it is refused whatever the room."""
         answer, _ = expand(self.carried, self.nine, self.stream, [0] * NEEDED_LIMIT)
         return answer[1]
 
-    def packed(self, room):
-        first, last = self.mix.packed()
-        return struct.pack('<8I', self.seed, self.high | self.lent << 16, first, self.m0, self.m1, self.length, room, last)
+    @cached_property
+    def goes(self):
+        """How many words of the stream are taken before one that is refused by 7 or 13 or writes too many, how many words are
+        written then, and the number that the next is refused by, 0 if there is none. Nine words are lent, or none is taken."""
+        if self.lent != 9:
+            return 0, 0, 4
+        call, written = Call(self.carried, self.nine), 0
+        for taken, word in enumerate(self.stream):
+            number = call.take(word)
+            if number or len(call.replay.written) > NEEDED_LIMIT:
+                return taken, written, number or 8
+            written = len(call.replay.written)
+        return len(self.stream), written, 0
 
-    def line(self, room):
-        output = states(Draws(self.draws_left), room)
-        (kind, number), carried = expand(self.carried, self.nine, self.stream, output)
-        word = {'filled': 'done', 'refused': 'refused'}[kind]
-        return f'{word} {number} {carried_line(carried)} {checksum(output)}\n'
+    def packed(self, room, pieces=WHOLE):
+        first, last = self.mix.packed()
+        kind, following, left, shown = load_numbers(self.load)
+        return struct.pack('<12I', self.seed, self.high | self.lent << 16, first, self.m0, self.m1, self.length, room, last,
+                           kind | shown << 1, following, left, pieces)
+
+    def line(self, room, pieces=WHOLE):
+        calls = Calls(self, states(Draws(self.draws_left), room))
+        if pieces == WHOLE:
+            told = calls.take(self.stream)
+        else:
+            for each in chains(self.stream, pieces):
+                calls.take_chain(each)
+            told = f'pieces {calls.taken} {calls.at} {checksum(calls.came)}'
+        return f'{told} {carried_line(calls.carried)} {checksum(calls.output)} {closed_line(calls.carried)}\n'
+
+
+def chains(stream, pieces):
+    """The stream in pieces, one chain of them after another: cut in two at each place; or, from 65,536 on, once, in random
+    pieces, of which `pieces` is the seed and its low half the most words of one."""
+    if pieces < 65536:
+        return [[stream[:place], stream[place:]] for place in range(len(stream) + 1)]
+    draws, at, made = Draws(pieces), 0, []
+    while at < len(stream):
+        words = draws.draw() % (pieces % 65536 + 1)
+        made.append(stream[at:at + words])
+        at += words
+    return [made]
+
+
+class Calls:
+    """Calls one after another, each from what the last one handed back, into one output, each behind what was written."""
+
+    def __init__(self, case, output):
+        self.case, self.output = case, output
+        self.carried, self.at, self.taken, self.came = case.carried, 0, 0, []
+
+    def take(self, piece):
+        """A call's answer; how often it is accepted is counted, and all that comes of it is kept as numbers."""
+        lent = [0] * (len(self.output) - self.at)
+        (kind, number), self.carried = expand(self.carried, self.case.nine, piece, lent)
+        refused = kind == 'refused'
+        if not refused:
+            self.output[self.at:self.at + number] = lent[:number]
+            self.at, self.taken = self.at + number, self.taken + 1
+        self.came += (int(refused), number, self.carried.high, *self.carried.slots, *load_numbers(self.carried.load))
+        return f'{"refused" if refused else "done"} {number}'
+
+    def take_chain(self, pieces):
+        """Begins anew with what the case carries, at the output's start."""
+        self.carried, self.at = self.case.carried, 0
+        for piece in pieces:
+            self.take(piece)
 
 
 def checksum(words):
@@ -106,7 +176,12 @@ def checksum(words):
 
 
 def carried_line(carried):
-    return f'{carried.high} {checksum(carried.slots)}'
+    return ' '.join(map(str, (carried.high, checksum(carried.slots), *load_numbers(carried.load))))
+
+
+def closed_line(carried):
+    answer, after = close(carried)
+    return f'{" ".join(map(str, answer))} {carried_line(after)}'
 
 
 # Short streams.
@@ -142,9 +217,9 @@ def replay_mix(draws, odd, shapes=SHAPES):
     return Mix(mops0, mops1, configs, chosen(draws, COUNTS), replays, in_nine, in_slots, odd)
 
 
-def short_case(draws, mix, outer, inner, lent=9):
+def short_case(draws, mix, outer, inner, lent=9, load=None):
     """A short stream of a mix; m0 and m1 from the two lists."""
-    return Case(draws.word(), any_mask(draws), mix, chosen(draws, outer), chosen(draws, inner), draws.draw() % 17, lent)
+    return Case(draws.word(), any_mask(draws), mix, chosen(draws, outer), chosen(draws, inner), draws.draw() % 17, lent, load)
 
 
 def mop_cases(draws):
@@ -172,29 +247,13 @@ def replay_cases(draws):
 
 # Long streams.
 
-def goes(case):
-    """How many words of the stream are taken before one that is refused by 7 or 13 or writes too many, how many words are
-    written then, and the number that the next is refused by, 0 if there is none."""
-    call, written = Call(case.carried, case.nine), 0
-    for taken, word in enumerate(case.stream):
-        number = call.take(word)
-        if number or len(call.replay.written) > NEEDED_LIMIT:
-            return taken, written, number or 8
-        written = len(call.replay.written)
-    return len(case.stream), written, 0
-
-
-def cut(case, length):
-    return Case(case.seed, case.high, case.mix, case.m0, case.m1, length)
-
-
 def at_the_limit(draws, mix, m0, m1, exact=False, most=12000):
     """Two streams: the last word before the limit, exactly at it where asked, and one more."""
     while True:
         whole = Case(draws.word(), draws.draw(), mix, m0, m1, most)
-        taken, written, number = goes(whole)
+        taken, written, number = whole.goes
         if number == 8 and (written == NEEDED_LIMIT or not exact):
-            return cut(whole, taken), cut(whole, taken + 1)
+            return whole.but(length=taken), whole.but(length=taken + 1)
 
 
 def refused_when_full(draws, mix, m0, m1, wanted):
@@ -204,14 +263,14 @@ def refused_when_full(draws, mix, m0, m1, wanted):
         call = Call(whole.carried, whole.nine)
         length, number = next(((at + 1, number) for at, number in enumerate(map(call.take, whole.stream)) if number), (0, 0))
         if number == wanted and len(call.replay.written) > NEEDED_LIMIT:
-            return cut(whole, length)
+            return whole.but(length=length)
 
 
 def swallowed(draws, m1, length):
     """MOPs of more words than a call may write, most of which their own loads take."""
     while True:
         case = Case(draws.word(), draws.draw(), Mix(NEVER, ALL, ALL, 0, in_nine=ALL), 127, m1, length)
-        if goes(case)[2] == 0:
+        if case.goes[2] == 0:
             return case
 
 
@@ -251,44 +310,167 @@ def long_replay_cases(draws):
     yield Case(draws.word(), draws.draw(), Mix(NEVER, NEVER, NEVER, 0, ALL, odd=1), 0, 0, STREAM_LIMIT + 1)
 
 
+# Streams behind a load.
+
+NEXT, LEFT = (0, 9, 31, 32, 0xFFFFFFFF), (0, 1, 6, 32, 33, 0xFFFFFFFF)
+LOADS = [Load(*numbers) for numbers in product(NEXT, LEFT, (0, 1))]
+MALFORMED = [load for load in LOADS if malformed(load)]
+
+
+def any_load(draws):
+    """None, or one that is mostly well formed."""
+    if draws.draw() % 2 == 0:
+        return None
+    if draws.draw() % 8 == 0:
+        return chosen(draws, LOADS)
+    return Load(draws.draw() % SLOTS, draws.draw() % (SLOTS + 1), draws.draw() % 2)
+
+
+def first_that(fits, make):
+    """The first of the cases made that fits."""
+    return next(filter(fits, iter(make, None)))
+
+
+def without_replays(draws, load):
+    """A stream without a REPLAY in it or in the nine words."""
+    return first_that(lambda case: case.stream and all(bits(word, 24, 31) != REPLAY for word in case.nine + case.stream),
+                      lambda: short_case(draws, mop_mix(draws), FEW, FLAGS, load=load))
+
+
+def only_mops(draws, load):
+    """MOPs, which fill what the load has to come; REPLAYs among their words now and then."""
+    mops0, counts, in_nine = chosen(draws, (ALL, NEVER, 8)), chosen(draws, COUNTS), chosen(draws, (NEVER, 3))
+    return short_case(draws, Mix(mops0, ALL, ALL, counts, in_nine=in_nine), FEW[1:], FLAGS, load=load)
+
+
+def load_cases(draws):
+    """Any streams behind each load; behind one that is well formed also such as have no REPLAY, and such as have MOPs alone."""
+    for load in LOADS:
+        yield short_case(draws, replay_mix(draws, draws.draw() % 2), FEW, FLAGS, load=load)
+        if load not in MALFORMED:
+            yield without_replays(draws, load)
+            yield only_mops(draws, load)
+
+
+def refused_by(draws, number):
+    """A stream that is refused by 7 or 13; with its room."""
+    return first_that(lambda case: case.goes[2] == number,
+                      lambda: short_case(draws, replay_mix(draws, 1, REFUSED), OVER, FLAGS)), 0
+
+
+def too_long(draws):
+    """A stream that is refused by 8; with its room."""
+    case = first_that(lambda case: case.goes[1] > 0 and case.goes[2] == 0,
+                      lambda: short_case(draws, replay_mix(draws, 0), FEW, FLAGS))
+    return case, case.goes[1] - 1
+
+
+def beside_10(draws):
+    """Loads that are refused by 10, before what is refused by 4, 7, 13 or 8 without them; with their rooms."""
+    for number, load in enumerate(MALFORMED):
+        yield short_case(draws, replay_mix(draws, 1, REFUSED), FEW, FLAGS, (0, 8, 10, 16)[number % 4], load), 0
+        for case, room in (refused_by(draws, (7, 13)[number % 2]), too_long(draws)):
+            yield case.but(load=load), room
+
+
 # All of them, with rooms.
 
 def with_rooms(draws, cases):
-    """Rooms one short, exact and ample."""
+    """In one call; rooms one short, exact and ample."""
     for case in cases:
-        needed = case.needed()
-        for room in (max(needed - 1, 0), needed, needed + 1 + draws.draw() % 9):
-            yield case, min(room, MOST_ROOM)
+        for room in (max(case.needed - 1, 0), case.needed, case.needed + 1 + draws.draw() % 9):
+            yield case, min(room, MOST_ROOM), WHOLE
 
 
 def with_another(draws, cases):
     """The same, and one anywhere below."""
     for case in cases:
         yield from with_rooms(draws, [case])
-        yield case, draws.draw() % (min(case.needed(), MOST_ROOM) + 1)
+        yield case, draws.draw() % (min(case.needed, MOST_ROOM) + 1), WHOLE
+
+
+def random_pieces(draws, most):
+    """Pieces of up to so many words."""
+    return (1 + draws.draw() % 65535) << 16 | max(most, 1)
+
+
+def both_ways(draws, case):
+    """At each place and in random pieces, with room for all of them up to a word that is refused."""
+    _, written, _ = case.goes
+    for pieces in (AT_EACH_PLACE, random_pieces(draws, chosen(draws, (1, 2, 5, 9)))):
+        yield case, written + 1 + draws.draw() % 9, pieces
+
+
+def some_way(draws):
+    """One way or the other."""
+    return chosen(draws, (AT_EACH_PLACE, random_pieces(draws, 5)))
+
+
+def with_less_room(draws, case):
+    """In pieces, with just room enough or less."""
+    _, written, _ = case.goes
+    return case, chosen(draws, (written, max(written - 1, 0), draws.draw() % (written + 1))), some_way(draws)
+
+
+def in_pieces(draws, cases):
+    """Both ways, and every fourth stream also with less room."""
+    for number, case in enumerate(cases):
+        yield from both_ways(draws, case)
+        if number % 4 == 0:
+            yield with_less_room(draws, case)
+
+
+def long_in_pieces(draws, cases):
+    """In a few pieces and in some hundred."""
+    for case in cases:
+        for most in (case.length // 2, case.length // 150):
+            yield case, chosen(draws, (NEEDED_LIMIT - 1, MOST_ROOM, MOST_ROOM)), random_pieces(draws, most)
+
+
+def distinct(cases):
+    """The first case of each stream."""
+    found = {}
+    for case in cases:
+        found.setdefault(tuple(case.stream), case)
+    return found.values()
 
 
 def all_cases():
-    """Cases with their rooms."""
+    """Cases with their rooms, and how their streams come."""
     draws = Draws(20000)
-    yield from with_another(draws, mop_cases(draws))
-    yield from with_rooms(draws, replay_cases(draws))
-    for case in chain(long_mop_cases(draws), long_replay_cases(draws)):
-        yield from ((case, room) for room in (NEEDED_LIMIT - 1, NEEDED_LIMIT, MOST_ROOM))
+    short = [*with_another(draws, mop_cases(draws)), *with_rooms(draws, replay_cases(draws))]
+    long = [*long_mop_cases(draws), *long_replay_cases(draws)]
+    yield from short
+    yield from ((case, room, WHOLE) for case in long for room in (NEEDED_LIMIT - 1, NEEDED_LIMIT, MOST_ROOM))
+    yield from in_pieces(draws, distinct(case for case, _, _ in short))
+    yield from long_in_pieces(draws, long)
+    for case in load_cases(draws):
+        yield case, max(case.goes[1] - 1, 0) + draws.draw() % 3, WHOLE
+        if case.load not in MALFORMED:
+            yield from both_ways(draws, case)
+    for case, room in beside_10(draws):
+        yield from ((case, room, pieces) for pieces in (WHOLE, some_way(draws)))
+
+
+def any_streams(draws, count):
+    """So many short streams that are not among those, behind any loads."""
+    few, over = [0, 1, 1, 2, 2, 3, 3, 5, 9, 127], [128, 0xFFFFFFFF]
+    makes = (mop_mix, lambda draws: replay_mix(draws, 0), lambda draws: replay_mix(draws, 0), lambda draws: replay_mix(draws, 1))
+    return (short_case(draws, chosen(draws, makes)(draws), 2 * few + over, 2 * few + over,
+                       chosen(draws, [9] * 20 + [0, 8, 10]), any_load(draws)) for _ in range(count))
 
 
 def any_cases(draws, count):
-    """So many cases that are not among those, with their rooms."""
-    few, over = [0, 1, 1, 2, 2, 3, 3, 5, 9, 127], [128, 0xFFFFFFFF]
-    makes = (mop_mix, lambda draws: replay_mix(draws, 0), lambda draws: replay_mix(draws, 0), lambda draws: replay_mix(draws, 1))
-    cases = (short_case(draws, chosen(draws, makes)(draws), 2 * few + over, 2 * few + over, chosen(draws, [9] * 20 + [0, 8, 10]))
-             for _ in range(count))
-    return with_another(draws, cases)
+    """Such streams, each in one call with four rooms, and in pieces."""
+    for case in any_streams(draws, count):
+        yield from with_another(draws, [case])
+        yield from both_ways(draws, case)
+        yield with_less_room(draws, case)
 
 
 def input_and_output(cases):
     """What the program reads of cases with their rooms, and what it must write."""
-    made = [(case.packed(room), case.line(room)) for case, room in cases]
+    made = [(case.packed(room, pieces), case.line(room, pieces)) for case, room, pieces in cases]
     stdout = ''.join((f'fresh {carried_line(FRESH)}\n', *(line for _, line in made)))
     return b''.join(packed for packed, _ in made), stdout.encode()
 

@@ -58,7 +58,7 @@ def load_case(times, seed):
 
 
 def expand_case(times, high, room, nine, stream):
-    """From the high mask and fresh slots; each call takes what the last one handed back."""
+    """From the high mask, fresh slots and no load; each call takes what the last one handed back."""
     output, answer, carried = [0] * room, ('filled', 0), FRESH._replace(high=high)
     for _ in range(times):
         answer, carried = expand(carried, nine, stream, output)
@@ -111,6 +111,26 @@ def replay_cases():
     yield expand_case(2, 5, 1, [3, 128] + nine[2:], [asm.nop()] * 2 + [asm.mop(1), asm.replay(0, 0)])
 
 
+def load_cases():
+    """Loads that go over the end of a call: the next call's words, or those of its MOPs, fill them, also a REPLAY that would be
+    refused; or the call ends before they are full."""
+    nine = [3, 4] + [0x02000000 + i for i in range(2, 9)]
+    for shown in (0, 1):
+        stream = [asm.setdmareg(1, 2), asm.dmanop(), asm.replay(0, 32), asm.replay(29, 7, shown, 1), asm.adddmareg(1, 2, 3)]
+        for times in (1, 2, 3):
+            yield expand_case(times, 0x1111, 400, nine, stream)
+        yield expand_case(4, 0x1111, 400, nine, [asm.mop_cfg(0x0101), asm.mop(0, 25, 0x2222), asm.replay(31, 32, shown, 1)])
+        yield expand_case(3, 5, 400, nine, [asm.dmanop(), asm.replay(3, 32, shown, 1), asm.mop(0, 1, 1)])
+        playing = [*nine[:5], asm.replay(31, 4), *nine[6:]]
+        yield expand_case(3, 5, 400, playing, [asm.mop(1), asm.replay(2, 20, shown, 1), asm.dmanop()])
+    # By the mask of the first call the last word of the next one's MOP is a REPLAY of 33 words: a load of 17 takes it.
+    for length in (16, 17):
+        stream = [asm.mop(0, 16), asm.mop_cfg(1), asm.replay(3, length, 0, 1)]
+        yield expand_case(2, 0, 400, [*nine[:7], asm.replay(1, 33), nine[8]], stream)
+    for times in (1, 2, 3):
+        yield expand_case(times, 5, 1, nine, [asm.dmanop(), asm.replay(3, 2, 0, 1)])
+
+
 def machine_cases():
     draws = seeded.Draws(77)
     streams = handshake(draws, 12)
@@ -126,6 +146,7 @@ def machine_cases():
 def expander_cases():
     yield from mop_cases()
     yield from replay_cases()
+    yield from load_cases()
 
 
 def files_of(folder, cases):

@@ -3,8 +3,8 @@
     python3 oracle/check_programs.py    after `rt check` or `rt ci`
 
 Each is run on its longest sound input, on that with one byte more and with a megabyte more, and on the examples that it reads;
-`expand` also on inputs at its limits, refused, damaged and drawn. rt runs a program on one stored input alone, and these are too
-many or too long to be stored.
+`expand` also on inputs at its limits, with loads, closes, refused, damaged and drawn. rt runs a program on one stored input
+alone, and these are too many or too long to be stored.
 """
 
 import subprocess

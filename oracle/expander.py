@@ -1,7 +1,7 @@
-"""The expander: the MOP stage (document 01, "Expander"), then the replay stage (document 02, K1)."""
+"""The expander: the MOP stage (document 01, "Expander"), then the replay stage (document 02, K1); streams in pieces (K2)."""
 
 from functools import lru_cache
-from typing import NamedTuple
+from typing import NamedTuple, Optional
 
 from bits import bit, bits
 
@@ -13,13 +13,26 @@ SLOTS = 32
 NOP = 0x02000000
 
 
+class Load(NamedTuple):
+    """A load that is on."""
+    next: int  # slot
+    left: int  # words to come
+    shown: int  # whether they are written too
+
+
 class Carried(NamedTuple):
     """What a call takes and hands back."""
     high: int  # mask
     slots: tuple
+    load: Optional[Load]
 
 
-FRESH = Carried(0, (NOP,) * SLOTS)  # what a first call takes
+FRESH = Carried(0, (NOP,) * SLOTS, None)  # what a first call takes
+
+
+def load_numbers(load):
+    """Whether there is a load, the next slot, the words to come, whether they are shown; zeros if there is none."""
+    return (0, 0, 0, 0) if load is None else (1, *load)
 
 
 # The MOP stage.
@@ -95,25 +108,27 @@ def is_template_1(word):
 # The replay stage.
 
 class Replay:
-    """The slots, the load that is on while words are left to come, and what is written, to one word over the limit."""
+    """The slots, the load if there is one, and what is written, to one word over the limit."""
 
-    def __init__(self, slots):
-        self.slots = list(slots)
-        self.next, self.left, self.shown = 0, 0, 0
-        self.written = []
+    def __init__(self, slots, load):
+        self.slots, self.load, self.written = list(slots), load, []
 
     def write(self, words):
         self.written += words[:NEEDED_LIMIT + 1 - len(self.written)]
 
-    def load(self, words):
-        """Puts the first words into slots, as many as are left to come, and gives their number."""
-        taken = words[:self.left]
-        for word in taken:
-            self.slots[self.next] = word
-            self.next = (self.next + 1) % SLOTS
-        if self.shown:
+    def fill(self, words):
+        """Puts the first words into slots, as many as the load has to come, and gives their number. The last of them ends the
+        load; one that was carried with none to come takes none, and stays."""
+        if self.load is None or self.load.left == 0:
+            return 0
+        first, left, shown = self.load
+        taken = words[:left]
+        for i, word in enumerate(taken):
+            self.slots[(first + i) % SLOTS] = word
+        if shown:
             self.write(taken)
-        self.left -= len(taken)
+        after = Load((first + len(taken)) % SLOTS, left - len(taken), shown)
+        self.load = after if after.left > 0 else None
         return len(taken)
 
     def obey(self, word):
@@ -122,33 +137,33 @@ class Replay:
         if length == 0 or length > SLOTS:
             return False
         if bit(word, 0):
-            self.next, self.left, self.shown = start, length, bit(word, 1)
+            self.load = Load(start, length, bit(word, 1))
         else:
             self.write([self.slots[(start + i) % SLOTS] for i in range(length)])
         return True
 
     def take(self, words, replays):
         """Takes an emission; a REPLAY that a load takes is stored and not obeyed. Gives whether all that it obeys can be."""
-        at = self.load(words)
+        at = self.fill(words)
         for place in replays:
             if place >= at:
                 self.write(words[at:place])
                 if not self.obey(words[place]):
                     return False
                 at = place + 1
-                at += self.load(words[at:at + SLOTS])
+                at += self.fill(words[at:at + SLOTS])
         self.write(words[at:])
         return True
 
 
 class Call:
-    """A call at work: the high mask and the replay stage as the words of the stream so far left them."""
+    """A call at work: the high mask and the replay stage as the words of the piece so far left them."""
 
     def __init__(self, carried, m):
-        self.m, self.high, self.replay = tuple(m), carried.high, Replay(carried.slots)
+        self.m, self.high, self.replay = tuple(m), carried.high, Replay(carried.slots, carried.load)
 
     def take(self, word):
-        """The number that the next word of the stream is refused by, 7 or 13, or 0."""
+        """The number that the next word of the piece is refused by, 7 or 13, or 0."""
         if is_template_1(word) and (self.m[0] > ROUNDS_LIMIT or self.m[1] > ROUNDS_LIMIT):
             return 7
         if bits(word, 24, 31) == MOP_CFG:
@@ -156,16 +171,23 @@ class Call:
         return 0 if self.replay.take(*expanded(word, self.high, self.m)) else 13
 
 
-def expand(carried, m, stream, output):
-    """Fills a lent list from its start and leaves its rest. The end of the stream ends a load.
+def malformed(load):
+    """Whether a carried load is one that 10 is given for."""
+    return load is not None and (load.next > SLOTS - 1 or load.left > SLOTS)
 
-    Gives (('filled', words), new carried), or (('refused', 4, 7, 13 or 8), old carried). 7 and 13 are found in one pass over
-    the whole stream, and go before 8.
+
+def expand(carried, m, piece, output):
+    """Takes a piece of a stream; a load goes on over its end. Fills a lent list from its start and leaves its rest.
+
+    Gives (('filled', words), new carried), or (('refused', 4, 10, 7, 13 or 8), old carried). 7 and 13 are found in one pass
+    over the whole piece, and go before 8.
     """
-    if len(m) != 9 or len(stream) > STREAM_LIMIT:
+    if len(m) != 9 or len(piece) > STREAM_LIMIT:
         return ('refused', 4), carried
+    if malformed(carried.load):
+        return ('refused', 10), carried
     call = Call(carried, m)
-    for word in stream:
+    for word in piece:
         number = call.take(word)
         if number:
             return ('refused', number), carried
@@ -173,4 +195,12 @@ def expand(carried, m, stream, output):
     if len(written) > min(len(output), NEEDED_LIMIT):
         return ('refused', 8), carried
     output[:len(written)] = written
-    return ('filled', len(written)), Carried(call.high, tuple(call.replay.slots))
+    return ('filled', len(written)), Carried(call.high, tuple(call.replay.slots), call.replay.load)
+
+
+def close(carried):
+    """The end of a stream: the load is off, and what it took stays. Gives (('closed',), new carried), or (('refused', 10), old
+    carried)."""
+    if malformed(carried.load):
+        return ('refused', 10), carried
+    return ('closed',), carried._replace(load=None)

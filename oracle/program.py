@@ -1,5 +1,5 @@
 """The programs: `emulate` (document 01, "Program and cases"), `resume`, which also takes and gives an image, and `expand`, which
-is one call of the expander.
+is one call of the expander: a piece of a stream, or the close after the last one.
 
     python3 oracle/program.py emulate < FILE
     python3 oracle/program.py resume < FILE
@@ -18,9 +18,9 @@ EMULATE_WORDS = 1024  # words of a stream, at most
 STREAM_KINDS = (32, 33, 34)
 BUDGET_KIND = 35
 CURSOR_KIND = 36
-NINE_KIND, CARRIED_KIND, WORDS_KIND, ROOM_KIND = 37, 38, 39, 40
+NINE_KIND, CARRIED_KIND, WORDS_KIND, ROOM_KIND, CLOSE_KIND = 37, 38, 39, 40, 41
 NINE_MOST, WORDS_MOST = 16, expander.STREAM_LIMIT + 1  # more than the expander takes, so that it can refuse them by 4
-CARRIED = struct.Struct('<H32I')  # high mask, slots
+CARRIED = struct.Struct('<H32I BIIB')  # high mask, slots; of the load a kind, the next slot, words to come, shown
 
 
 class BadRecord(Exception):
@@ -38,6 +38,10 @@ class Records:
     def bad(self):
         """The last record taken is bad."""
         return BadRecord(self.start)
+
+    def kind(self):
+        """The kind of the next record, if it has one."""
+        return int.from_bytes(self.data[self.at + 4:self.at + 6], 'little')
 
     def body(self, kind):
         """The body of the next record, which has this kind."""
@@ -131,24 +135,50 @@ def resume(data, load=read_image):
     return summary(result, streams) + lines(f'next {result.cursor.next}') + image_of(machine)
 
 
+def carried_in(records):
+    """What the next record says is carried. The numbers of a load may be any; without one they are zeros."""
+    high, *slots, kind, following, left, shown = records.fields(CARRIED_KIND, CARRIED)
+    if kind > 1 or shown > 1 or (kind == 0 and (following, left, shown) != (0, 0, 0)):
+        raise records.bad()
+    return expander.Carried(high, tuple(slots), expander.Load(following, left, shown) if kind else None)
+
+
+def carried_out(carried):
+    return record(CARRIED_KIND, CARRIED.pack(carried.high, *carried.slots, *expander.load_numbers(carried.load)))
+
+
+def piece_answer(nine, carried, piece, room):
+    """The number of words, what is carried on and the words; or the refusal, and what came."""
+    output = [0] * min(room, expander.NEEDED_LIMIT)
+    (kind, number), after = expander.expand(carried, nine, piece, output)
+    if kind == 'refused':
+        return lines(f'refused {number}') + carried_out(after)
+    return lines(f'words {number}') + carried_out(after) + record(WORDS_KIND, struct.pack(f'<{number}I', *output[:number]))
+
+
+def close_answer(carried):
+    """The answer, and what is carried on; what came, if it is refused."""
+    answer, after = expander.close(carried)
+    return lines(' '.join(map(str, answer))) + carried_out(after)
+
+
 def expand(data):
-    """Standard output of the expander's program: the nine words, what is carried, a stream and room in; the number of words,
-    what is carried on and the words out. A call that is refused hands on what came."""
+    """Standard output of the expander's program: the nine words and what is carried, then a piece of a stream and room, or a
+    close, which looks at no word."""
     records = Records(data)
     try:
         nine = records.numbers(NINE_KIND, NINE_MOST)
-        high, *slots = records.fields(CARRIED_KIND, CARRIED)
-        stream = records.numbers(WORDS_KIND, WORDS_MOST)
+        carried = carried_in(records)
+        if records.kind() == CLOSE_KIND:
+            records.exactly(CLOSE_KIND, 0)
+            records.end()
+            return close_answer(carried)
+        piece = records.numbers(WORDS_KIND, WORDS_MOST)
         room, = records.exactly(ROOM_KIND, 1)
         records.end()
     except BadRecord as bad:
         return lines(f'bad record at {bad.args[0]}')
-    output = [0] * min(room, expander.NEEDED_LIMIT)
-    (kind, number), carried = expander.expand(expander.Carried(high, tuple(slots)), nine, stream, output)
-    handed_on = record(CARRIED_KIND, CARRIED.pack(carried.high, *carried.slots))
-    if kind == 'refused':
-        return lines(f'refused {number}') + handed_on
-    return lines(f'words {number}') + handed_on + record(WORDS_KIND, struct.pack(f'<{number}I', *output[:number]))
+    return piece_answer(nine, carried, piece, room)
 
 
 PROGRAMS = {'emulate': emulate, 'resume': resume, 'expand': expand}

@@ -18,14 +18,14 @@ class Expander(unittest.TestCase):
     def words(self, stream, m=M, high=0, after=None):
         """What a stream gives, with the new high mask as told (the old one if not) and the slots as they were."""
         output = [REST] * 2000
-        answer, now = expand(Carried(high, SLOTS), m, stream, output)
+        answer, now = expand(Carried(high, SLOTS, None), m, stream, output)
         self.assertEqual(answer[0], 'filled')
-        self.assertEqual(now, Carried(high if after is None else after, SLOTS))
+        self.assertEqual(now, Carried(high if after is None else after, SLOTS, None))
         self.assertEqual(output[answer[1]:], [REST] * (2000 - answer[1]))
         return output[:answer[1]]
 
     def refuses(self, number, stream, m=M, high=0x77, room=10):
-        output, carried = [REST] * room, Carried(high, SLOTS)
+        output, carried = [REST] * room, Carried(high, SLOTS, None)
         self.assertEqual(expand(carried, m, stream, output), (('refused', number), carried))
         self.assertEqual(output, [REST] * room)
 
@@ -148,7 +148,7 @@ class Refusals(Expander):
         self.refuses(8, stream, room=4)
         self.refuses(8, stream, room=0)
         output = [REST] * 5
-        self.assertEqual(expand(Carried(3, SLOTS), M, stream, output), (('filled', 5), Carried(3, SLOTS)))
+        self.assertEqual(expand(Carried(3, SLOTS, None), M, stream, output), (('filled', 5), Carried(3, SLOTS, None)))
         self.assertEqual(output, [asm.nop(), 103, 103, 103, asm.nop()])
 
     def test_8_by_limit(self):

@@ -27,9 +27,9 @@ class Fresh(unittest.TestCase):
         self.assertEqual(set(cases_image.tally(stdout)), {'w', 't', *(f'r {number}' for number in (4, 8, 9, 10))})
 
     def test_expander(self):
-        _, stdout = cases_expander.input_and_output(cases_expander.any_cases(Draws(1), 60))
+        _, stdout = cases_expander.input_and_output(cases_expander.any_cases(Draws(1), 120))
         words = {' '.join(line.split()[:2 if line.startswith('refused') else 1]) for line in stdout.decode().splitlines()}
-        self.assertEqual(words, {'fresh', 'done', *(f'refused {number}' for number in (4, 7, 8, 13))})
+        self.assertEqual(words, {'fresh', 'done', 'pieces', *(f'refused {number}' for number in (4, 7, 8, 10, 13))})
 
     def test_decode(self):
         _, stdout = cases_decode.input_and_output(cases_decode.any_words(Draws(1), 3000))

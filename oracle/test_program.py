@@ -6,7 +6,7 @@ import unittest
 from pathlib import Path
 
 import assemble as asm
-from expander import FRESH, Carried
+from expander import FRESH, Carried, Load
 from image import SIZE, image_of
 from machine import fresh
 from program import emulate, expand, resume
@@ -143,9 +143,10 @@ class Resume(unittest.TestCase):
 
 class Expand(unittest.TestCase):
     NINE = (1, 1, 102, 103, 104, 105, 106, 107, 108)
-    BEFORE = Carried(0xBEEF, tuple(range(900, 932)))
-    # Records at 0, 42, 178 and 196; 206 bytes.
+    BEFORE = Carried(0xBEEF, tuple(range(900, 932)), None)
+    # Records at 0, 42, 188 and 206; 216 bytes.
     PLAIN = asm.expand_input(NINE, BEFORE, (asm.replay(31, 2, 0, 1), NOP, 0x60000000), 9)
+    CLOSE = asm.close_input(NINE, BEFORE)  # the last record at 188; 194 bytes
 
     def prints(self, data, line, carried, written=None):
         words = b'' if written is None else asm.number_record(39, *written)
@@ -162,11 +163,33 @@ class Expand(unittest.TestCase):
             self.prints(asm.expand_input(self.NINE, self.BEFORE, stream, room), 'words 8', self.BEFORE._replace(high=5), written)
         self.prints(asm.expand_input(self.NINE, FRESH, [], 0), 'words 0', FRESH, [])
 
+    def test_a_load_comes_and_goes(self):
+        before = self.BEFORE._replace(load=Load(31, 3, 1))
+        slots = (0x60000000, *range(901, 931), NOP)
+        self.prints(asm.expand_input(self.NINE, before, [NOP, 0x60000000], 2), 'words 2',
+                    Carried(0xBEEF, slots, Load(1, 1, 1)), [NOP, 0x60000000])
+        self.prints(asm.expand_input(self.NINE, before, [NOP] * 3, 3), 'words 3',
+                    Carried(0xBEEF, (NOP, NOP, *range(902, 931), NOP), None), [NOP] * 3)
+        self.prints(asm.expand_input(self.NINE, before, [NOP] * 3, 2), 'refused 8', before)
+
+    def test_close(self):
+        for nine in ((), self.NINE, [0xFFFFFFFF] * 16):
+            for load in (None, Load(0, 0, 0), Load(31, 32, 1)):
+                self.prints(asm.close_input(nine, self.BEFORE._replace(load=load)), 'closed', self.BEFORE)
+            for load in (Load(32, 0, 0), Load(0, 33, 1), Load(0xFFFFFFFF, 0xFFFFFFFF, 1)):
+                before = self.BEFORE._replace(load=load)
+                self.prints(asm.close_input(nine, before), 'refused 10', before)
+
     def test_by_bytes(self):
-        data = bytes.fromhex('24000000 2500' + '00000000' * 9 + '82000000 2600 0100' + '00000002' * 32
-                             + '04000000 2700 20000004 04000000 2800 02000000')
-        self.assertEqual(expand(data), b'words 2\n' + bytes.fromhex('82000000 2600 0100' + '00000002' * 32
-                                                                    + '08000000 2700 00000002 00000002'))
+        nine, slots, words = '24000000 2500' + '00000000' * 9, '00000002' * 32, '04000000 2700 20000004 04000000 2800 02000000'
+        none = bytes.fromhex('8C000000 2600 0100' + slots + '00 00000000 00000000 00')
+        load = bytes.fromhex('8C000000 2600 0100' + slots + '01 1F000000 02000000 01')
+        self.assertEqual(expand(bytes.fromhex(nine) + none + bytes.fromhex(words)),
+                         b'words 2\n' + none + bytes.fromhex('08000000 2700 00000002 00000002'))
+        after = bytes.fromhex('8C000000 2600 0100' + '00000002' * 31 + '20000004' + '01 00000000 01000000 01')
+        self.assertEqual(expand(bytes.fromhex(nine) + load + bytes.fromhex(words)),
+                         b'words 1\n' + after + bytes.fromhex('04000000 2700 20000004'))
+        self.assertEqual(expand(bytes.fromhex(nine) + load + bytes.fromhex('00000000 2900')), b'closed\n' + none)
 
     def test_refused(self):
         changes = [asm.mop_cfg(5), asm.replay(0, 1, 0, 1), NOP]
@@ -175,22 +198,32 @@ class Expand(unittest.TestCase):
                 (7, [128] * 9, [asm.mop(1)], 0), (13, self.NINE, [asm.replay()], 0), (8, self.NINE, [NOP], 0),
                 (8, self.NINE, [NOP] * 65505 + [asm.replay(0, 32)], 0xFFFFFFFF)):
             self.prints(asm.expand_input(nine, self.BEFORE, changes + stream, room), f'refused {number}', self.BEFORE)
+            malformed, first = self.BEFORE._replace(load=Load(0, 33, 0)), 4 if number == 4 else 10
+            self.prints(asm.expand_input(nine, malformed, changes + stream, room), f'refused {first}', malformed)
 
     def test_cut_anywhere(self):
-        self.assertEqual(len(self.PLAIN), 206)
-        for length in range(206):
-            self.bad(self.PLAIN[:length], max(start for start in (0, 42, 178, 196) if start <= length))
-        self.bad(self.PLAIN + b'\0', 206)
-        self.bad(self.PLAIN * 2, 206)
+        self.assertEqual(len(self.PLAIN), 216)
+        for length in range(216):
+            self.bad(self.PLAIN[:length], max(start for start in (0, 42, 188, 206) if start <= length))
+        self.bad(self.PLAIN + b'\0', 216)
+        self.bad(self.PLAIN * 2, 216)
+        for length in range(188, 194):
+            self.bad(self.CLOSE[:length], 188)
+        self.bad(self.CLOSE + b'\0', 194)
 
     def test_kinds_and_order(self):
-        records = [self.PLAIN[:42], self.PLAIN[42:178], self.PLAIN[178:196], self.PLAIN[196:]]
+        records = [self.PLAIN[:42], self.PLAIN[42:188], self.PLAIN[188:206], self.PLAIN[206:], self.CLOSE[188:]]
         self.bad(b''.join(records[place] for place in (1, 0, 2, 3)), 0)
         self.bad(b''.join(records[place] for place in (0, 2, 1, 3)), 42)
-        self.bad(b''.join(records[place] for place in (0, 1, 3, 2)), 178)
-        self.bad(b''.join(records[place] for place in (0, 1, 1, 2, 3)), 178)
-        self.bad(b''.join(records[place] for place in (0, 1, 2, 3, 3)), 206)
-        for start in (0, 42, 178, 196):
+        self.bad(b''.join(records[place] for place in (0, 1, 3, 2)), 188)
+        self.bad(b''.join(records[place] for place in (0, 1, 1, 2, 3)), 188)
+        self.bad(b''.join(records[place] for place in (0, 1, 2, 3, 3)), 216)
+        self.bad(b''.join(records[place] for place in (0, 4)), 42)
+        self.bad(b''.join(records[place] for place in (0, 1, 4, 4)), 194)
+        self.bad(b''.join(records[place] for place in (0, 1, 4, 2, 3)), 194)
+        self.bad(b''.join(records[place] for place in (0, 1, 2, 4)), 206)
+        self.bad(b''.join(records[place] for place in (0, 1, 2, 3, 4)), 216)
+        for start in (0, 42, 188, 206):
             for at in (4, 5):
                 data = bytearray(self.PLAIN)
                 data[start + at] ^= 128
@@ -200,12 +233,30 @@ class Expand(unittest.TestCase):
         for length in (1, 35, 37, 65, 68):
             self.bad(asm.record(37, bytes(length)) + self.PLAIN[42:], 0)
         self.prints(asm.record(37, bytes(64)) + self.PLAIN[42:], 'refused 4', self.BEFORE)
-        for length in (0, 2, 129, 131, 132):
-            self.bad(self.PLAIN[:42] + asm.record(38, bytes(length)) + self.PLAIN[178:], 42)
+        for length in (0, 2, 130, 139, 141, 144):
+            self.bad(self.PLAIN[:42] + asm.record(38, bytes(length)) + self.PLAIN[188:], 42)
         for length in (1, 7, 9, 4 * 65537 + 1, 4 * 65538):
-            self.bad(self.PLAIN[:178] + asm.record(39, bytes(length)) + self.PLAIN[196:], 178)
+            self.bad(self.PLAIN[:188] + asm.record(39, bytes(length)) + self.PLAIN[206:], 188)
         for length in (0, 3, 5, 8):
-            self.bad(self.PLAIN[:196] + asm.record(40, bytes(length)), 196)
+            self.bad(self.PLAIN[:206] + asm.record(40, bytes(length)), 206)
+        for length in (1, 4):
+            self.bad(self.CLOSE[:188] + asm.record(41, bytes(length)), 188)
+        for length in (1, 35, 65, 68):
+            self.bad(asm.record(37, bytes(length)) + self.CLOSE[42:], 0)
+
+    def test_loads_that_are_none(self):
+        """The load is the last 10 bytes of record 38, from 178 on."""
+        for data in (self.PLAIN, self.CLOSE):
+            with_load = data[:178] + bytes.fromhex('01 00000000 00000000 00') + data[188:]
+            self.assertFalse(expand(with_load).startswith(b'bad'))
+            for at in range(179, 188):
+                self.bad(data[:at] + b'\1' + data[at + 1:], 42)
+            for byte in (2, 3, 128, 255):
+                self.bad(data[:178] + bytes([byte]) + data[179:], 42)
+                self.bad(with_load[:178] + bytes([byte]) + with_load[179:], 42)
+                self.bad(with_load[:187] + bytes([byte]) + with_load[188:], 42)
+            for at in range(179, 187):
+                self.assertFalse(expand(with_load[:at] + b'\xFF' + with_load[at + 1:]).startswith(b'bad'))
 
 
 class CommandLine(unittest.TestCase):

@@ -3,12 +3,12 @@
 import unittest
 
 import assemble as asm
-from expander import FRESH, SLOTS, Carried, expand, expanded
+from expander import FRESH, SLOTS, Carried, Load, close, expand, expanded
 from seeded import Draws
 
 A, B, C, NOP = 0x45123408, 0x60000000, 0xB00000FF, 0x02000000
 M = (0, 0, 102, 103, 104, 105, 106, 107, 108)
-NUMBERED = Carried(0x77, tuple(range(900, 932)))
+NUMBERED = Carried(0x77, tuple(range(900, 932)), None)
 REST = 0xEEEE
 BAD_LENGTHS = (0, *range(33, 64))
 
@@ -22,8 +22,10 @@ def loaded(*words, start=0, before=FRESH):
 
 
 def word_by_word(carried, m, stream):
-    """The rule as one loop over single words: what is written and carried, or the number of the refusal, with room enough."""
-    high, slots, left, written = carried.high, list(carried.slots), 0, []
+    """The rule as one loop over single words: what is written and carried, or the number of the refusal, with room enough. No
+    load that is carried is without words to come."""
+    high, slots, written = carried.high, list(carried.slots), []
+    place, left, shown = carried.load or (0, 0, 0)
     for word in stream:
         if word >> 23 == 3 and max(m[0], m[1]) > 127:
             return 7
@@ -35,22 +37,45 @@ def word_by_word(carried, m, stream):
                 written += [each] if shown else []
                 place, left = (place + 1) & 31, left - 1
             elif each >> 24 == 4:
-                place, length, shown = each >> 14 & 31, each >> 4 & 63, each & 2
+                start, length = each >> 14 & 31, each >> 4 & 63
                 if not 1 <= length <= 32:
                     return 13
                 if each & 1:
-                    left = length
+                    place, left, shown = start, length, each >> 1 & 1
                 else:
-                    written += (slots + slots)[place:place + length]
+                    written += (slots + slots)[start:start + length]
             else:
                 written.append(each)
-    return written, Carried(high, tuple(slots))
+    return written, Carried(high, tuple(slots), Load(place, left, shown) if left else None)
+
+
+def any_word(draws, kind):
+    """A REPLAY, another word, a MOP of either template or a MOP_CFG."""
+    if kind == 0:
+        length = draws.draw() % 34 if draws.draw() % 4 == 0 else 1 + draws.draw() % 4
+        return asm.replay(draws.draw() % 32, length, draws.draw() % 2, draws.draw() % 2)
+    if kind == 3:
+        return asm.mop(draws.draw() % 2, draws.draw() % 40, draws.draw())
+    if kind == 4:
+        return asm.mop_cfg(draws.draw())
+    return 0x60000000 | draws.draw()
+
+
+def any_call(draws, most):
+    """Nine words, what is carried, a load now and then, and a stream of fewer words than the most."""
+    m = [draws.draw() % 4, draws.draw() % 4] + [any_word(draws, draws.draw() % 3) for _ in range(7)]
+    if draws.draw() % 40 == 0:
+        m[draws.draw() % 2] = 128
+    load = Load(draws.draw() % 32, 1 + draws.draw() % 32, draws.draw() % 2) if draws.draw() % 3 == 0 else None
+    carried = Carried(draws.draw(), tuple(draws.words(32)), load)
+    return m, carried, [any_word(draws, draws.draw() % 5) for _ in range(draws.draw() % most)]
 
 
 class ReplayBuffer(unittest.TestCase):
-    def gives(self, stream, written, slots=None, m=M, carried=FRESH, high=None):
-        """A stream's words, and the slots and the high mask after it, as before if not told; room exact, ample and one short."""
-        after = Carried(carried.high if high is None else high, carried.slots if slots is None else slots)
+    def gives(self, stream, written, slots=None, m=M, carried=FRESH, high=None, load=None):
+        """A stream's words, the slots and the high mask after it, as before if not told, and the load, none if not told; room
+        exact, ample and one short."""
+        after = Carried(carried.high if high is None else high, carried.slots if slots is None else slots, load)
         for more in (0, 3):
             output = [REST] * (len(written) + more)
             self.assertEqual(expand(carried, m, stream, output), (('filled', len(written)), after))
@@ -75,8 +100,8 @@ class WorkedTable(ReplayBuffer):
         self.gives([0x04000011, 0x04000001], [], loaded(0x04000001))
 
     def test_two_calls(self):
-        carried = self.gives([0x04000041, A], [], loaded(A))
-        self.gives([0x04000020], [A, NOP], carried=carried)
+        carried = self.gives([0x04000041, A], [], loaded(A), load=Load(1, 3, 0))
+        self.gives([0x04000020], [A, NOP], carried=close(carried)[1])
 
     def test_refusals(self):
         for word in (0x04000001, 0x04000210, 0x040003F0):
@@ -88,7 +113,7 @@ class WorkedTable(ReplayBuffer):
 
     def test_words_of_mops(self):
         self.gives([0x01800000], [NOP, A, B, NOP, A, B, NOP, NOP, NOP], m=(1, 2, NOP, NOP, NOP, 0x04000020, NOP, NOP, NOP),
-                   carried=Carried(0, loaded(A, B)))
+                   carried=Carried(0, loaded(A, B), None))
         m = (0, 0, NOP, A, NOP, NOP, NOP, B, NOP)
         self.gives([0x04010031, 0x01020002, C, 0x04010030], [C, A, B, A], loaded(A, B, A, start=4), m)
         m = (0, 0, NOP, 0x04000010, NOP, NOP, NOP, NOP, NOP)
@@ -121,7 +146,7 @@ class Fields(ReplayBuffer):
                         self.refuses(13, [NOP, asm.replay(start, length, shown, 0)])
                         self.refuses(13, [NOP, asm.replay(start, length, shown, 1)])
                     else:
-                        self.gives([asm.replay(start, length, shown, 1)], [], carried=NUMBERED)
+                        self.gives([asm.replay(start, length, shown, 1)], [], carried=NUMBERED, load=Load(start, length, shown))
 
     def test_bit_1_without_load_is_no_matter(self):
         self.gives([asm.replay(31, 3, 1, 0), B], [931, 900, 901, B], carried=NUMBERED)
@@ -147,7 +172,7 @@ class Loads(ReplayBuffer):
 
     def test_a_whole_round_and_over_it_again(self):
         words = list(range(200, 232))
-        slots = loaded(A, B, start=6, before=Carried(0, loaded(*words, start=7)))
+        slots = loaded(A, B, start=6, before=Carried(0, loaded(*words, start=7), None))
         self.gives([asm.replay(7, 32, 0, 1), *words, asm.replay(6, 2, 0, 1), A, B], [], slots)
 
     def test_store_a_replay_whatever_its_length(self):
@@ -157,13 +182,13 @@ class Loads(ReplayBuffer):
 
     def test_what_comes_out_of_a_slot_is_not_obeyed(self):
         words = (asm.replay(0, 0), asm.replay(9, 2, 1, 1), asm.mop(1), asm.mop_cfg(5))
-        self.gives([asm.replay(8, 4), A], [*words, A], carried=Carried(0x77, loaded(*words, start=8)))
+        self.gives([asm.replay(8, 4), A], [*words, A], carried=Carried(0x77, loaded(*words, start=8), None))
 
-    def test_end_with_the_stream(self):
+    def test_what_the_words_so_far_filled(self):
         slots = loaded(A, B, C, start=30, before=NUMBERED)
-        carried = self.gives([asm.replay(30, 5, 1, 1), A, B, C], [A, B, C], slots, carried=NUMBERED)
-        self.gives([A, asm.replay(29, 5)], [A, 929, A, B, C, 901], carried=carried)
-        self.gives([asm.replay(1, 32, 0, 1)], [], carried=NUMBERED)
+        carried = self.gives([asm.replay(30, 5, 1, 1), A, B, C], [A, B, C], slots, carried=NUMBERED, load=Load(1, 2, 1))
+        self.gives([A, asm.replay(29, 5)], [A, 929, A, B, C, 901], carried=close(carried)[1])
+        self.gives([asm.replay(1, 32, 0, 1)], [], carried=NUMBERED, load=Load(1, 32, 0))
 
     def test_mop_cfg_takes_no_slot(self):
         stream = [asm.replay(0, 2, 1, 1), asm.mop_cfg(1), A, asm.mop_cfg(2), asm.mop_cfg(1), asm.mop(0, 16), NOP]
@@ -200,7 +225,7 @@ class WordsOfMops(ReplayBuffer):
         for place in range(32):
             stream = [asm.mop_cfg((1 << place) >> 16), asm.mop(0, 31, (1 << place) & 0xFFFF)]
             self.gives(stream, [A] * place + [930, 931, 900] + [A] * (31 - place), m=m, carried=NUMBERED, high=(1 << place) >> 16)
-        self.gives([asm.mop(0, 32, 0xFFFF)], [930, 931, 900] * 32 + [A], m=m, carried=Carried(0xFFFF, NUMBERED.slots))
+        self.gives([asm.mop(0, 32, 0xFFFF)], [930, 931, 900] * 32 + [A], m=m, carried=Carried(0xFFFF, NUMBERED.slots, None))
 
     def test_a_bad_one_counts_where_it_is_emitted(self):
         m = (0, 1, B, A, 104, 105, 106, asm.replay(0, 33), asm.replay(0, 0))
@@ -267,11 +292,7 @@ class WordByWord(ReplayBuffer):
     def test_any_streams(self):
         draws, ends = Draws(4), {'filled': 0, 7: 0, 13: 0}
         for _ in range(3000):
-            m = [draws.draw() % 4, draws.draw() % 4] + [self.word(draws, draws.draw() % 3) for _ in range(7)]
-            if draws.draw() % 40 == 0:
-                m[draws.draw() % 2] = 128
-            carried = Carried(draws.draw(), tuple(draws.words(32)))
-            stream = [self.word(draws, draws.draw() % 5) for _ in range(draws.draw() % 30)]
+            m, carried, stream = any_call(draws, 30)
             expected, output = word_by_word(carried, tuple(m), stream), [REST] * 65536
             answer, after = expand(carried, m, stream, output)
             if answer[0] == 'filled':
@@ -280,18 +301,6 @@ class WordByWord(ReplayBuffer):
                 self.assertEqual((answer[1], after), (expected, carried))
             ends[answer[0] if answer[0] == 'filled' else answer[1]] += 1
         self.assertGreater(min(ends.values()), 50)
-
-    @staticmethod
-    def word(draws, kind):
-        """A REPLAY, another word, a MOP of either template or a MOP_CFG."""
-        if kind == 0:
-            length = draws.draw() % 34 if draws.draw() % 4 == 0 else 1 + draws.draw() % 4
-            return asm.replay(draws.draw() % 32, length, draws.draw() % 2, draws.draw() % 2)
-        if kind == 3:
-            return asm.mop(draws.draw() % 2, draws.draw() % 40, draws.draw())
-        if kind == 4:
-            return asm.mop_cfg(draws.draw())
-        return 0x60000000 | draws.draw()
 
 
 if __name__ == '__main__':

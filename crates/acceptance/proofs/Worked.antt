@@ -34,8 +34,8 @@ use Rattle.effects.specs.Settings.{bankOf}
 use Rattle.effects.specs.Sources.{srcAAfter, srcBAfter}
 use Rattle.step_rules.specs.Step.{passOf, machineAfter, stepped, stepOf}
 use Rattle.expander_rules.specs.declared.Carried.{Carried}
-use Rattle.replay_buffer.specs.Replay.{anyReplay}
-use Rattle.expander_rules.specs.State.{carry, freshCarried}
+use Rattle.replay_buffer.specs.Replay.{anyReplay, loading}
+use Rattle.expander_rules.specs.State.{carry, freshCarried, badLoad}
 use Rattle.expander_rules.specs.Stream.{Emission, emission, streamOf}
 use Rattle.expander_rules.specs.Call.{call, badLength, anyTemplate1, overRounds, shortOutput, doneWith, expansion, expandOf}
 use Rattle.expander_rules.specs.Promises.{mopCallOf}
@@ -116,10 +116,10 @@ copies-four m t r =
 
 -- a call without a REPLAY whose lengths and rounds are in order and whose output has room
 expanded : (m : List ℕ) (c : Carried) (l out : List ℕ) (e : Emission) → streamOf m (c .«high_mask») l ≡ e → anyReplay m ≡ false → anyReplay l ≡ false →
-    badLength m l ≡ false → (overRounds m && anyTemplate1 l) ≡ false → shortOutput out (length (e .words)) ≡ false →
-    expandOf m c l out ≡ doneWith (expansion (e .words) (carry (e .high) (c .slots))) out
+    badLoad (c .load) ≡ false → loading (c .load) ≡ false → badLength m l ≡ false → (overRounds m && anyTemplate1 l) ≡ false → shortOutput out (length (e .words)) ≡ false →
+    expandOf m c l out ≡ doneWith (expansion (e .words) (carry (e .high) (c .slots) (c .load))) out
 unfolding mopCallOf
-expanded m c l out e s n k p q r = plain-streams m c l out (stream-plain m n (c .«high_mask») l k) ∙ rw (p, q, s, r)
+expanded m c l out e s n k f off p q r = plain-streams m c l out off (stream-plain m n (c .«high_mask») l k) ∙ rw (p, f, q, s, r)
 
 room : (out : List ℕ) (n : ℕ) → n ≤ length out → n ≤ 65536 → shortOutput out n ≡ false
 room out n h k = rw (le-ltb (length out) n h, le-ltb 65536 n k)
@@ -144,15 +144,16 @@ mask-template : (m0 m2 m3 m4 m5 m6 m7 m8 : ℕ) (out : List ℕ) → 6 ≤ lengt
     call (accepted 6) freshCarried (over out 0 (m3 ∷ m2 ∷ m7 ∷ m8 ∷ m3 ∷ m2 ∷ []))
 mask-template m0 m2 m3 m4 m5 m6 m7 m8 out h n =
     expanded (m0 ∷ 1 ∷ m2 ∷ m3 ∷ m4 ∷ m5 ∷ m6 ∷ m7 ∷ m8 ∷ []) freshCarried (0x01020002 ∷ []) out (emission (m3 ∷ m2 ∷ m7 ∷ m8 ∷ m3 ∷ m2 ∷ []) 0)
-    (examples .M10 m0 m2 m3 m4 m5 m6 m7 m8) n mask-alone refl (none-here (overRounds (m0 ∷ 1 ∷ m2 ∷ m3 ∷ m4 ∷ m5 ∷ m6 ∷ m7 ∷ m8 ∷ []))) (room out 6 h (omega arith))
+    (examples .M10 m0 m2 m3 m4 m5 m6 m7 m8) n mask-alone refl refl refl (none-here (overRounds (m0 ∷ 1 ∷ m2 ∷ m3 ∷ m4 ∷ m5 ∷ m6 ∷ m7 ∷ m8 ∷ []))) (room out 6 h (omega arith))
 
 round-template : (m2 m3 m4 m5 m6 m7 m8 : ℕ) (c : Carried) (out : List ℕ) → 14 ≤ length out →
+    badLoad (c .load) ≡ false → loading (c .load) ≡ false →
     anyReplay (2 ∷ 2 ∷ m2 ∷ m3 ∷ m4 ∷ m5 ∷ m6 ∷ m7 ∷ m8 ∷ []) ≡ false →
     expandOf (2 ∷ 2 ∷ m2 ∷ m3 ∷ m4 ∷ m5 ∷ m6 ∷ m7 ∷ m8 ∷ []) c (0x01800000 ∷ []) out ≡
     call (accepted 14) c (over out 0 (m2 ∷ m5 ∷ m6 ∷ m5 ∷ m8 ∷ m3 ∷ m4 ∷ m2 ∷ m5 ∷ m6 ∷ m5 ∷ m7 ∷ m3 ∷ m4 ∷ []))
-round-template m2 m3 m4 m5 m6 m7 m8 c out h n =
+round-template m2 m3 m4 m5 m6 m7 m8 c out h f off n =
     expanded (2 ∷ 2 ∷ m2 ∷ m3 ∷ m4 ∷ m5 ∷ m6 ∷ m7 ∷ m8 ∷ []) c (0x01800000 ∷ []) out (emission (m2 ∷ m5 ∷ m6 ∷ m5 ∷ m8 ∷ m3 ∷ m4 ∷ m2 ∷ m5 ∷ m6 ∷ m5 ∷ m7 ∷ m3 ∷ m4 ∷ []) (c .«high_mask»))
-    (examples .M11 m2 m3 m4 m5 m6 m7 m8 (c .«high_mask»)) n rounds-alone refl refl (room out 14 h (omega arith))
+    (examples .M11 m2 m3 m4 m5 m6 m7 m8 (c .«high_mask»)) n rounds-alone f off refl refl (room out 14 h (omega arith))
 
 past-view : (config : List ℕ) (s : DestStore) (bank : ℕ) (out : List ℕ) →
     length config ≡ configCount → length (s .dest) ≡ destCount → length (s .marks) ≡ markCount → bank ≤ 1 →

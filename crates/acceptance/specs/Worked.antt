@@ -20,8 +20,8 @@ use Rattle.effects.specs.Places.{configPlace}
 use Rattle.effects.specs.Settings.{bankOf}
 use Rattle.step_rules.specs.Step.{Step, stepped, stepOf}
 use Rattle.expander_rules.specs.declared.Carried.{Carried}
-use Rattle.replay_buffer.specs.Replay.{anyReplay}
-use Rattle.expander_rules.specs.State.{freshCarried}
+use Rattle.replay_buffer.specs.Replay.{anyReplay, loading}
+use Rattle.expander_rules.specs.State.{freshCarried, badLoad}
 use Rattle.expander_rules.specs.Call.{expandOf}
 use Rattle.expander_rules.specs.Call as expanding
 use Rattle.dest_access.specs.DestRows.{DestStore, readRow32Of}
@@ -95,8 +95,9 @@ pub record Worked : Type 0 where
       anyReplay (m0 ∷ 1 ∷ m2 ∷ m3 ∷ m4 ∷ m5 ∷ m6 ∷ m7 ∷ m8 ∷ []) ≡ false →
       expandOf (m0 ∷ 1 ∷ m2 ∷ m3 ∷ m4 ∷ m5 ∷ m6 ∷ m7 ∷ m8 ∷ []) freshCarried (0x01020002 ∷ []) out ≡
       expanding.call (accepted 6) freshCarried (over out 0 (m3 ∷ m2 ∷ m7 ∷ m8 ∷ m3 ∷ m2 ∷ []))
-  -- template 1, 2 by 2: m2 m5 m6 m5 m8 m3 m4 m2 m5 m6 m5 m7 m3 m4, for nine words without a REPLAY
+  -- template 1, 2 by 2: m2 m5 m6 m5 m8 m3 m4 m2 m5 m6 m5 m7 m3 m4, for nine words without a REPLAY while no load is on
   pub m11 : (m2 m3 m4 m5 m6 m7 m8 : ℕ) (c : Carried) (out : List ℕ) → 14 ≤ length out →
+      badLoad (c .load) ≡ false → loading (c .load) ≡ false →
       anyReplay (2 ∷ 2 ∷ m2 ∷ m3 ∷ m4 ∷ m5 ∷ m6 ∷ m7 ∷ m8 ∷ []) ≡ false →
       expandOf (2 ∷ 2 ∷ m2 ∷ m3 ∷ m4 ∷ m5 ∷ m6 ∷ m7 ∷ m8 ∷ []) c (0x01800000 ∷ []) out ≡
       expanding.call (accepted 14) c (over out 0 (m2 ∷ m5 ∷ m6 ∷ m5 ∷ m8 ∷ m3 ∷ m4 ∷ m2 ∷ m5 ∷ m6 ∷ m5 ∷ m7 ∷ m3 ∷ m4 ∷ []))

@@ -13,7 +13,7 @@ ghost use Rattle.image.specs.Promises.{ImageFacts, RoundTrips};
 ghost use Rattle.gpr_access.specs.Promises.{GprPromises};
 ghost use Rattle.dest_access.specs.Promises.{DestPromises};
 ghost use Rattle.source_access.specs.Promises.{SourcePromises};
-ghost use Rattle.expander_rules.specs.Promises.{CutAnywhere, Stages, PlainStreams, SlotsHandedBack, FreshExpander};
+ghost use Rattle.expander_rules.specs.Promises.{CutAnywhere, JoinedPieces, RefusedPieces, CarriesFormed, EmptyLoads, Stages, PlainStreams, SlotsHandedBack, FreshExpander};
 ghost use Rattle.replay_buffer.specs.Promises.{LoadsPlayBack};
 ghost use Rattle.acceptance.specs.Worked.{Worked};
 
@@ -46,8 +46,13 @@ pub fn promises()
     ensures gprs { λ _. ⌜ GprPromises ⌝ }
     ensures rows { λ _. ⌜ DestPromises ⌝ }
     ensures sources { λ _. ⌜ SourcePromises ⌝ }
-    // what leaves the MOP stage is alike however a stream is cut
+    // a stream gives the same however it is cut; pieces that are all accepted are one call; a refused piece leaves what is carried; what
+    // an accepted one carries is well formed; a load with no words to come takes nothing
     ensures cut { λ _. ⌜ CutAnywhere ⌝ }
+    ensures joined { λ _. ⌜ JoinedPieces ⌝ }
+    ensures refused { λ _. ⌜ RefusedPieces ⌝ }
+    ensures formed { λ _. ⌜ CarriesFormed ⌝ }
+    ensures empty { λ _. ⌜ EmptyLoads ⌝ }
     // the words of an accepted call are the replay stage of what leaves the MOP stage; without a REPLAY document 01's, and the slots stay
     ensures stages { λ _. ⌜ Stages ⌝ }
     ensures plain { λ _. ⌜ PlainStreams ⌝ }

@@ -1,24 +1,24 @@
-// Reads nine words, what an expander carries, a stream and a room from standard input, expands the stream, and prints the words and
-// what is carried on. README.md has the records.
+// Reads nine words, what an expander carries, and a piece of a stream with a room or a close from standard input, expands the piece or
+// closes the stream, and prints the words and what is carried on. README.md has the records.
 ghost use mathlib.Core.Path.{_≡_};
-ghost use Prim.Native.Nat.{_≤_};
+ghost use Prim.Native.Nat.{_+_, _*_, _≤_};
 ghost use lib.ListN.{length};
-ghost use Rattle.expand.specs.Sizes.{Fits, answered};
+ghost use Rattle.expander_rules.specs.Call.{answered};
+ghost use Rattle.expand.specs.Sizes.{Fits};
 
 mod input;
 mod output;
 
+use carried_record::read_carried;
 use expander_rules::Answer;
 use expander_rules::Carried;
 use expander_rules::Expanded;
 use format::number::read;
-use format::number::read_half;
 use format::run::read_words;
 use input::INPUT_BYTES;
 use input::InputRead;
 use input::Sizes;
 use libc::STDIN_FILENO;
-use replay_buffer::SLOTS;
 
 // The most words of records 37 and 39, the most that record 40 lends, and the bytes of a record 39 of as many.
 const NINE_MOST: usize = 16;
@@ -29,25 +29,12 @@ const ROOM_MOST: usize = 65536;
 
 const WORDS_RECORD: usize = 262150;
 
-// Record 38 of a sound input.
-fn read_carried(s: &[u8], z: Sizes) -> Carried
-    requires { ⌜ Fits (now s) z ⌝ }
-{
-    let at = 12 + 4 * z.nine;
-    let mut slots = [0u32; SLOTS];
-    read_words(s, at + 2, 4, &mut slots);
-    Carried {
-        high_mask: read_half(s, at),
-        slots,
-    }
-}
-
 // How many words record 40 of a sound input lends.
 fn read_room(s: &[u8], z: Sizes) -> usize
     requires { ⌜ Fits (now s) z ⌝ }
     ensures { λ r. ⌜ r ≤ 65536 ⌝ }
 {
-    let n = read(s, 154 + 4 * z.nine + 4 * z.words, 4);
+    let n = read(s, 164 + 4 * z.nine + 4 * z.words, 4);
     if 65536 < n {
         return ROOM_MOST;
     }
@@ -86,8 +73,8 @@ fn expand_input(
 {
     let n = z.nine;
     read_words(s, 6, 4, nine);
-    read_words(s, 148 + 4 * n, 4, stream);
-    let carried = read_carried(s, z);
+    read_words(s, 158 + 4 * n, 4, stream);
+    let carried = read_carried(s, 12 + 4 * n);
     expand_words(nine, carried, stream, out, bytes);
 }
 
@@ -115,6 +102,19 @@ fn expand_sound(
     );
 }
 
+// A close of what a sound input carries. It looks at none of the nine words.
+fn close_input(s: &[u8], nine: usize)
+    requires { ⌜ (nine ≤ 16) × (152 + 4 * nine ≤ length (now s)) ⌝ }
+{
+    let done = expander::close(read_carried(s, 12 + 4 * nine));
+    let answer = done.answer;
+    let carried = done.carried;
+    match answer {
+        Answer::Refused(why) => output::print_refused(why, carried),
+        Answer::Done(n) => output::print_closed(carried),
+    }
+}
+
 // Answers the input. Internal, as expand_sound.
 fn answer(s: &[u8], nine: &mut [u32], stream: &mut [u32], out: &mut [u32], bytes: &mut [u8])
     requires { ⌜ (length (now nine) ≡ 16) × (length (now stream) ≡ 65537) × (length (now out) ≡ 65536) × (262150 ≤ length (now bytes)) ⌝ }
@@ -122,6 +122,7 @@ fn answer(s: &[u8], nine: &mut [u32], stream: &mut [u32], out: &mut [u32], bytes
     let read = input::read_input(s);
     match read {
         InputRead::BadAt(at) => output::print_bad(at),
+        InputRead::Closing(n) => close_input(s, n),
         InputRead::Sound(z) => expand_sound(s, z, nine, stream, out, bytes),
     }
 }

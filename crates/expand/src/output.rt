@@ -1,8 +1,8 @@
-// What is printed: a line, record 38 with what is carried, and record 39 with the words.
+// What is printed: a line, record 38 with what is carried, and of a piece record 39 with the words.
 ghost use Prim.Native.Nat.{_≤_};
 ghost use lib.ListN.{length};
+use carried_record::carried_record;
 use expander_rules::Carried;
-use format::number::write_half;
 use format::run::write_head;
 use format::run::write_words;
 use libc::STDOUT_FILENO;
@@ -21,16 +21,17 @@ pub(crate) fn print_bad(at: usize) {
 
 // Record 38.
 fn print_carried(carried: Carried) {
-    let slots = carried.slots;
-    let mut bytes = [0u8; 136];
-    write_head(&mut bytes, 0, 130, 38);
-    write_half(&mut bytes, 6, carried.high_mask);
-    write_words(&mut bytes, 8, 4, &slots);
+    let bytes = carried_record(carried);
     io::write_all(STDOUT_FILENO, &bytes);
 }
 
 pub(crate) fn print_refused(why: Refusal, carried: Carried) {
     print_line(b"refused ", refusal_number(why) as usize);
+    print_carried(carried);
+}
+
+pub(crate) fn print_closed(carried: Carried) {
+    io::write_all(STDOUT_FILENO, b"closed\n");
     print_carried(carried);
 }
 

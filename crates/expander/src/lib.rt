@@ -1,15 +1,16 @@
 // The expander: a stream with MOP, MOP_CFG and REPLAY words becomes the words that they stand for (document 01, "Expander"; document
-// 02, K1).
+// 02, K1), in one call or in pieces (K2).
 ghost use mathlib.Core.Bool.{false};
+ghost use mathlib.Core.List.{[]};
 ghost use mathlib.Core.Path.{_≡_};
 ghost use Prim.Native.Nat.{min, _≤_};
 ghost use lib.ListN.{length};
 ghost use Rattle.answers.specs.Answers.{accepted};
-ghost use Rattle.replay_buffer.specs.Replay.{anyReplay};
-ghost use Rattle.replay_buffer.specs.declared.load.Load.the-variants.{NoLoad};
+ghost use Rattle.replay_buffer.specs.Replay.{anyReplay, loading};
 ghost use Rattle.expander_rules.specs.declared.Answer.the-variants.{Refused};
-ghost use Rattle.expander_rules.specs.State.{freshCarried};
-ghost use Rattle.expander_rules.specs.Call.{told, call, faultOf, neededMost, expansionOf, doneWith, expandOf};
+ghost use Rattle.expander_rules.specs.State.{freshCarried, badLoad};
+ghost use Rattle.expander_rules.specs.Call.{told, call, faultOf, neededMost, expansionOf, doneWith, expandOf, closeOf};
+use crate::bad_load::is_bad_load;
 use answers::Access;
 use expander_rules::Answer;
 use expander_rules::Carried;
@@ -17,9 +18,12 @@ use expander_rules::Expanded;
 use machine::refusal::Refusal;
 use machine::sizes::STREAM_WORDS;
 use replay_buffer::SLOTS;
+use replay_buffer::load::Load;
 use replay_buffer::load::any_replay;
+use replay_buffer::load::is_loading;
 use replay_buffer::survey::least;
 
+mod bad_load;
 mod count;
 mod limits;
 mod mask;
@@ -39,6 +43,7 @@ pub fn fresh_carried() -> Carried
     Carried {
         high_mask: 0,
         slots,
+        load: Load::NoLoad,
     }
 }
 
@@ -60,15 +65,18 @@ fn write(
     room: &mut [u32],
     out: &mut [u32],
 ) -> Expanded
-    requires { ⌜ (length (now nine) ≡ 9) × (length (now room) ≡ 640) × (faultOf (now nine) (carried .«high_mask») NoLoad (now input) ≡ accepted tt) × (needed ≡ length (expansionOf (now nine) carried (now input) .words)) × (needed ≤ length (now out)) ⌝ }
+    requires { ⌜ (length (now nine) ≡ 9) × (length (now room) ≡ 640) × (faultOf (now nine) (carried .«high_mask») (carried .load) (now input) ≡ accepted tt) × (needed ≡ length (expansionOf (now nine) carried (now input) .words)) × (needed ≤ length (now out)) ⌝ }
     ensures { λ r. ⌜ call (told (r .answer)) (r .carried) (now (out .exit)) ≡ doneWith (expansionOf (now (nine .entry)) carried (now (input .entry))) (now (out .entry)) ⌝ }
 {
     let mut slots = carried.slots;
-    let high = pass::pass_stream(nine, carried.high_mask, input, &mut slots, room, out);
+    let load = carried.load;
+    let left = pass::pass_stream(nine, carried.high_mask, load, input, &mut slots, room, out);
+    let onward = left.load;
     let answer = Answer::Done(needed);
     let after = Carried {
-        high_mask: high,
+        high_mask: left.high,
         slots,
+        load: onward,
     };
     Expanded {
         answer,
@@ -76,7 +84,7 @@ fn write(
     }
 }
 
-// A call whose lengths are right, by both stages. `limit` is the most words that it may write.
+// A call whose lengths and load are right, by both stages. `limit` is the most words that it may write.
 fn expand_replayed(
     nine: &[u32],
     carried: Carried,
@@ -84,11 +92,12 @@ fn expand_replayed(
     limit: usize,
     out: &mut [u32],
 ) -> Expanded
-    requires { ⌜ (length (now nine) ≡ 9) × (length (now input) ≤ 65536) × (limit ≡ min (length (now out)) neededMost) ⌝ }
+    requires { ⌜ (length (now nine) ≡ 9) × (length (now input) ≤ 65536) × (limit ≡ min (length (now out)) neededMost) × (badLoad (carried .load) ≡ false) ⌝ }
     ensures { λ r. ⌜ call (told (r .answer)) (r .carried) (now (out .exit)) ≡ expandOf (now (nine .entry)) carried (now (input .entry)) (now (out .entry)) ⌝ }
 {
     let mut room = parts::part_room();
-    let seen = survey::survey_stream(nine, carried.high_mask, input, limit, &mut room);
+    let load = carried.load;
+    let seen = survey::survey_stream(nine, carried.high_mask, load, input, limit, &mut room);
     let access = seen.access;
     match access {
         Access::Denied(why) => refuse(why, carried),
@@ -101,7 +110,7 @@ fn expand_replayed(
     }
 }
 
-// The same where no word is a REPLAY, by the MOP stage alone: the slots stay as they are.
+// The same where no load is on and no word is a REPLAY, by the MOP stage alone: slots and load stay as they are.
 fn expand_plain(
     nine: &[u32],
     carried: Carried,
@@ -109,7 +118,7 @@ fn expand_plain(
     limit: usize,
     out: &mut [u32],
 ) -> Expanded
-    requires { ⌜ (length (now nine) ≡ 9) × (length (now input) ≤ 65536) × (limit ≡ min (length (now out)) neededMost) × (anyReplay (now nine) ≡ false) × (anyReplay (now input) ≡ false) ⌝ }
+    requires { ⌜ (length (now nine) ≡ 9) × (length (now input) ≤ 65536) × (limit ≡ min (length (now out)) neededMost) × (anyReplay (now nine) ≡ false) × (anyReplay (now input) ≡ false) × (badLoad (carried .load) ≡ false) × (loading (carried .load) ≡ false) ⌝ }
     ensures { λ r. ⌜ call (told (r .answer)) (r .carried) (now (out .exit)) ≡ expandOf (now (nine .entry)) carried (now (input .entry)) (now (out .entry)) ⌝ }
 {
     let over = limits::bad_rounds(nine, input);
@@ -122,10 +131,12 @@ fn expand_plain(
     }
     let put = stream::put_stream(nine, carried.high_mask, input, 0, out);
     let slots = carried.slots;
+    let load = carried.load;
     let answer = Answer::Done(needed);
     let after = Carried {
         high_mask: put.high,
         slots,
+        load,
     };
     Expanded {
         answer,
@@ -133,7 +144,8 @@ fn expand_plain(
     }
 }
 
-// Expands `input` into `out`. `nine` is the words m0 to m8: they are lent, and another number of them is refused by 4.
+// Expands `input`, a piece of a stream, into `out`; a load goes on over its end. `nine` is the words m0 to m8: they are lent, and another
+// number of them is refused by 4.
 pub fn expand(nine: &[u32], carried: Carried, input: &[u32], out: &mut [u32]) -> Expanded
     ensures { λ r. ⌜ call (told (r .answer)) (r .carried) (now (out .exit)) ≡ expandOf (now (nine .entry)) carried (now (input .entry)) (now (out .entry)) ⌝ }
 {
@@ -143,10 +155,39 @@ pub fn expand(nine: &[u32], carried: Carried, input: &[u32], out: &mut [u32]) ->
     if STREAM_WORDS < input.len() {
         return refuse(Refusal::BadLength, carried);
     }
+    let load = carried.load;
+    let bad = is_bad_load(load);
+    if bad {
+        return refuse(Refusal::Malformed, carried);
+    }
     let limit = least(out.len(), NEEDED_MOST);
+    let on = is_loading(load);
     let replays = bits::either(any_replay(nine), any_replay(input));
-    if replays {
+    let special = bits::either(on, replays);
+    if special {
         return expand_replayed(nine, carried, input, limit, out);
     }
     expand_plain(nine, carried, input, limit, out)
+}
+
+// Ends a stream after its last piece: a load that is on ends with what came, and mask and slots stay. It writes nothing.
+pub fn close(carried: Carried) -> Expanded
+    ensures { λ r. ⌜ call (told (r .answer)) (r .carried) [] ≡ closeOf carried ⌝ }
+{
+    let load = carried.load;
+    let bad = is_bad_load(load);
+    if bad {
+        return refuse(Refusal::Malformed, carried);
+    }
+    let slots = carried.slots;
+    let answer = Answer::Done(0);
+    let after = Carried {
+        high_mask: carried.high_mask,
+        slots,
+        load: Load::NoLoad,
+    };
+    Expanded {
+        answer,
+        carried: after,
+    }
 }

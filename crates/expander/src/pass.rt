@@ -8,7 +8,6 @@ ghost use Rattle.bits.specs.Field.{flag};
 ghost use Rattle.answers.specs.Answers.{accepted};
 ghost use Rattle.replay_buffer.specs.Passing.{Passes};
 ghost use Rattle.replay_buffer.specs.Replay.{anyReplay, buffer, playWords};
-ghost use Rattle.replay_buffer.specs.declared.load.Load.the-variants.{NoLoad};
 ghost use Rattle.expander_rules.specs.Stream.{opcode, mopWords, wordOf, streamOf};
 ghost use Rattle.expander_rules.specs.Call.{isTemplate1, overRounds, faultOf};
 use crate::mask::mask_after;
@@ -94,26 +93,30 @@ fn pass_emission(
     }
 }
 
-// Internal: a whole stream, from where no load is on, from the output's start; the answer is the high mask after it.
+// The high mask and the load that a stream leaves.
+pub(crate) struct Left {
+    pub(crate) high: u16,
+    pub(crate) load: Load,
+}
+
+// Internal: a whole stream, from the output's start.
 pub(crate) fn pass_stream(
     nine: &[u32],
     high: u16,
+    load: Load,
     input: &[u32],
     slots: &mut [u32],
     room: &mut [u32],
     out: &mut [u32],
-) -> u16
-    requires { ⌜ (length (now nine) ≡ 9) × (faultOf (now nine) high NoLoad (now input) ≡ accepted tt) × (length (now slots) ≡ 32) × (length (now room) ≡ 640) × (length (playWords (buffer (now slots) NoLoad) (streamOf (now nine) high (now input) .words) .words) ≤ length (now out)) ⌝ }
-    ensures mask { λ r. ⌜ r ≡ streamOf (now (nine .entry)) high (now (input .entry)) .high ⌝ }
-    ensures taken { λ _. ⌜ now (slots .exit) ≡ playWords (buffer (now (slots .entry)) NoLoad) (streamOf (now (nine .entry)) high (now (input .entry)) .words) .buffer .slots ⌝ }
-    ensures wrote { λ _. ⌜ now (out .exit) ≡ over (now (out .entry)) 0 (playWords (buffer (now (slots .entry)) NoLoad) (streamOf (now (nine .entry)) high (now (input .entry)) .words) .words) ⌝ }
+) -> Left
+    requires { ⌜ (length (now nine) ≡ 9) × (faultOf (now nine) high load (now input) ≡ accepted tt) × (length (now slots) ≡ 32) × (length (now room) ≡ 640) × (length (playWords (buffer (now slots) load) (streamOf (now nine) high (now input) .words) .words) ≤ length (now out)) ⌝ }
+    ensures mask { λ r. ⌜ r .high ≡ streamOf (now (nine .entry)) high (now (input .entry)) .high ⌝ }
+    ensures taken { λ r. ⌜ buffer (now (slots .exit)) (r .load) ≡ playWords (buffer (now (slots .entry)) load) (streamOf (now (nine .entry)) high (now (input .entry)) .words) .buffer ⌝ }
+    ensures wrote { λ _. ⌜ now (out .exit) ≡ over (now (out .entry)) 0 (playWords (buffer (now (slots .entry)) load) (streamOf (now (nine .entry)) high (now (input .entry)) .words) .words) ⌝ }
 {
     let plain = !any_replay(nine);
     let mut mask = high;
-    let mut p = Passed {
-        at: 0,
-        load: Load::NoLoad,
-    };
+    let mut p = Passed { at: 0, load };
     let mut i: usize = 0;
     while i < input.len() {
         let word = input[i];
@@ -122,5 +125,9 @@ pub(crate) fn pass_stream(
         mask = mask_after(mask, word);
         i += 1;
     }
-    mask
+    let after = p.load;
+    Left {
+        high: mask,
+        load: after,
+    }
 }

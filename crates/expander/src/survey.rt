@@ -7,7 +7,6 @@ ghost use Rattle.bits.specs.Field.{flag};
 ghost use Rattle.answers.specs.Answers.{accepted, told};
 ghost use Rattle.replay_buffer.specs.Counts.{capped, countAll, Surveyed};
 ghost use Rattle.replay_buffer.specs.Replay.{anyReplay, loading};
-ghost use Rattle.replay_buffer.specs.declared.load.Load.the-variants.{NoLoad};
 ghost use Rattle.expander_rules.specs.Stream.{opcode, mopWords, wordOf, streamOf};
 ghost use Rattle.expander_rules.specs.Call.{isTemplate1, overRounds, faultOf};
 use crate::count::count_mop;
@@ -135,22 +134,23 @@ fn survey_emission(
     }
 }
 
-// Internal: a whole stream, from where no load is on.
+// Internal: a whole stream.
 pub(crate) fn survey_stream(
     nine: &[u32],
     high: u16,
+    load: Load,
     input: &[u32],
     limit: usize,
     room: &mut [u32],
 ) -> Seen
     requires { ⌜ (length (now nine) ≡ 9) × (limit ≤ 65536) × (length (now room) ≡ 640) ⌝ }
-    ensures judged { λ r. ⌜ told (r .access) ≡ faultOf (now (nine .entry)) high NoLoad (now (input .entry)) ⌝ }
-    ensures counted { λ r. ⌜ (told (r .access) ≡ accepted tt → r .count ≡ capped limit (countAll NoLoad (streamOf (now (nine .entry)) high (now (input .entry)) .words))) ⌝ }
+    ensures judged { λ r. ⌜ told (r .access) ≡ faultOf (now (nine .entry)) high load (now (input .entry)) ⌝ }
+    ensures counted { λ r. ⌜ (told (r .access) ≡ accepted tt → r .count ≡ capped limit (countAll load (streamOf (now (nine .entry)) high (now (input .entry)) .words))) ⌝ }
 {
     let over = over_rounds(nine);
     let plain = !any_replay(nine);
     let mut mask = high;
-    let mut load = Load::NoLoad;
+    let mut on = load;
     let mut count: usize = 0;
     let mut i: usize = 0;
     while i < input.len() {
@@ -162,14 +162,14 @@ pub(crate) fn survey_stream(
                 count,
             };
         }
-        let s = survey_emission(nine, plain, mask, word, load, count, limit, room);
+        let s = survey_emission(nine, plain, mask, word, on, count, limit, room);
         if s.bad {
             return Seen {
                 access: Access::Denied(Refusal::BadReplay),
                 count,
             };
         }
-        load = s.load;
+        on = s.load;
         count = s.count;
         mask = mask_after(mask, word);
         i += 1;

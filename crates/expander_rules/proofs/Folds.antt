@@ -16,17 +16,16 @@ use Rattle.templates.specs.Templates.{groupCount, outerCount, nth, maskBit, mas
 use Rattle.templates.proofs.Rounds.{rounds-long, outer-long, mask-group-long}
 use Rattle.expander_rules.specs.Call.{isTemplate1, anyTemplate1}
 use Rattle.expander_rules.specs.Counts.{mopCount, wordCount, streamCount}
-use Rattle.expander_rules.specs.Promises.{CutAnywhere}
 use Rattle.expander_rules.specs.Stream.{Emission, emission, followedBy, opcode, mopWords, wordOf, streamOf}
 
--- a stream may be cut between any two words
-pub cut : CutAnywhere
+-- a stream in two parts
+pub stream-cut : (m : List ℕ) (high : ℕ) (a b : List ℕ) → streamOf m high (a ++ b) ≡ followedBy (streamOf m high a) (streamOf m (streamOf m high a .high) b)
 unfolding streamOf
-cut m high [] b = refl
-cut m high (word ∷ a) b =
+stream-cut m high [] b = refl
+stream-cut m high (word ∷ a) b =
     let w = wordOf m high word in
     let first = streamOf m (w .high) a in
-    rw (cut m (w .high) a b) (ap (λ (l : List ℕ). emission l (streamOf m (first .high) b .high)) (sym (append-assoc (w .words) (first .words) (streamOf m (first .high) b .words))))
+    rw (stream-cut m (w .high) a b) (ap (λ (l : List ℕ). emission l (streamOf m (first .high) b .high)) (sym (append-assoc (w .words) (first .words) (streamOf m (first .high) b .words))))
 
 -- the kinds of words, by the tests that the code makes
 module _ (m : List ℕ) (high word : ℕ) where

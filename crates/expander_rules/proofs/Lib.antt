@@ -3,4 +3,7 @@ pub mod Plain
 pub mod Faults
 pub mod Examples
 pub mod Calls
+pub mod Pieces
+pub mod Formed
+pub mod Empty
 pub mod Whole

@@ -9,62 +9,57 @@ use lib.ListN.{length, getD, replicate}
 use borrow.Author.Tests.{ltb-false}
 use Rattle.bits.proofs.Choices.{neither}
 use Rattle.answers.specs.Answers.{Told, accepted, refused}
-use Rattle.replay_buffer.specs.Replay.{Played, buffer, playWords, anyReplay}
-use Rattle.replay_buffer.specs.declared.load.Load.the-variants.{NoLoad}
+use Rattle.replay_buffer.specs.Replay.{buffer, playWords}
 use Rattle.replay_buffer.proofs.Folds.{plain-words, slots-kept}
-use Rattle.expander_rules.specs.Call.{Call, call, badLength, anyTemplate1, overRounds, faultOf, shortOutput, refusedBy, unlessRefused, doneWith, Expansion, expansion, expansionOf, expandOf}
-use Rattle.expander_rules.specs.Promises.{Stages, PlainStreams, SlotsHandedBack, FreshExpander, mopCallOf}
-use Rattle.expander_rules.specs.State.{carry}
+use Rattle.expander_rules.specs.Call.{told, answered, Call, call, badLength, anyTemplate1, overRounds, faultOf, shortOutput, refusedBy, unlessRefused, doneWith, expansion, expansionOf, expandOf, closeOf}
+use Rattle.expander_rules.specs.Promises.{RefusedPieces, Stages, PlainStreams, SlotsHandedBack, FreshExpander, mopCallOf}
+use Rattle.expander_rules.specs.State.{carry, badLoad}
 use Rattle.expander_rules.specs.Stream.{streamOf}
+use Rattle.expander_rules.specs.declared.Answer.{Answer}
+use Rattle.expander_rules.specs.declared.Answer.the-variants.{Done, Refused}
 use Rattle.expander_rules.specs.declared.Carried.{Carried}
 use Rattle.expander_rules.proofs.Faults.{plain-fault}
+use Rattle.expander_rules.proofs.Calls.{Accepts, accepts, refuses, never, close-bad, close-done}
 
--- an accepted call has passed every test
 pub stages : Stages
-unfolding expandOf expansionOf
-stages m c l out n e = go (badLength m l) (faultOf m (c .«high_mask») NoLoad l) (shortOutput out (length (expansionOf m c l .words))) e
-  where
-    done : Call
-    done = doneWith (expansionOf m c l) out
-
-    go : (long : Bool) (fault : Told (Unit {0})) (short : Bool) →
-        cond long (refusedBy 4 c out) (unlessRefused fault c out (cond short (refusedBy 8 c out) done)) .answer ≡ accepted n →
-        cond long (refusedBy 4 c out) (unlessRefused fault c out (cond short (refusedBy 8 c out) done)) ≡ done
-    go true fault short h = cc
-    go false (refused number values) short h = cc
-    go false (accepted x) true h = cc
-    go false (accepted x) false h = refl
+unfolding expansionOf
+stages m c l out n e = accepts m c l out n e .done
 
 pub plain-streams : PlainStreams
 unfolding expandOf expansionOf mopCallOf
-plain-streams m c l out none =
+plain-streams m c l out off none =
     let mops = streamOf m (c .«high_mask») l in
-    rw (plain-words (buffer (c .slots) NoLoad) (mops .words) refl none, plain-fault m (c .«high_mask») NoLoad l none)
-    (go (badLength m l) (overRounds m && anyTemplate1 l) (shortOutput out (length (mops .words))))
+    rw (plain-words (buffer (c .slots) (c .load)) (mops .words) off none, plain-fault m (c .«high_mask») (c .load) l none)
+    (go (badLength m l) (badLoad (c .load)) (overRounds m && anyTemplate1 l) (shortOutput out (length (mops .words))))
   where
     done : Call
-    done = doneWith (expansion (streamOf m (c .«high_mask») l .words) (carry (streamOf m (c .«high_mask») l .high) (c .slots))) out
+    done = doneWith (expansion (streamOf m (c .«high_mask») l .words) (carry (streamOf m (c .«high_mask») l .high) (c .slots) (c .load))) out
 
-    go : (long many short : Bool) →
-        cond long (refusedBy 4 c out) (unlessRefused (cond many (refused 7 []) (accepted tt)) c out (cond short (refusedBy 8 c out) done)) ≡
-        cond long (refusedBy 4 c out) (cond many (refusedBy 7 c out) (cond short (refusedBy 8 c out) done))
-    go true many short = refl
-    go false true short = refl
-    go false false short = refl
+    go : (long bad many short : Bool) →
+        cond long (refusedBy 4 c out) (cond bad (refusedBy 10 c out) (unlessRefused (cond many (refused 7 []) (accepted tt)) c out (cond short (refusedBy 8 c out) done))) ≡
+        cond long (refusedBy 4 c out) (cond bad (refusedBy 10 c out) (cond many (refusedBy 7 c out) (cond short (refusedBy 8 c out) done)))
+    go true bad many short = refl
+    go false true many short = refl
+    go false false true short = refl
+    go false false false short = refl
 
 pub slots-handed-back : SlotsHandedBack
-unfolding expandOf expansionOf
-slots-handed-back m c l out = go (badLength m l) (faultOf m (c .«high_mask») NoLoad l) (shortOutput out (length (expansionOf m c l .words)))
+unfolding expansionOf
+slots-handed-back m c l out = go (expandOf m c l out .answer) refl
   where
-    done : Call
-    done = doneWith (expansionOf m c l) out
+    go : (a : Told ℕ) → expandOf m c l out .answer ≡ a → length (expandOf m c l out .carried .slots) ≡ length (c .slots)
+    go (accepted n) e = rw (accepts m c l out n e .done) (slots-kept (buffer (c .slots) (c .load)) (streamOf m (c .«high_mask») l .words))
+    go (refused number values) e = rw (refuses m c l out number values e)
 
-    go : (long : Bool) (fault : Told (Unit {0})) (short : Bool) →
-        length (cond long (refusedBy 4 c out) (unlessRefused fault c out (cond short (refusedBy 8 c out) done)) .carried .slots) ≡ length (c .slots)
-    go true fault short = refl
-    go false (refused number values) short = refl
-    go false (accepted x) true = refl
-    go false (accepted x) false = slots-kept (buffer (c .slots) NoLoad) (streamOf m (c .«high_mask») l .words)
+close-refused : (c : Carried) (number : ℕ) (values : List ℕ) → closeOf c .answer ≡ refused number values → closeOf c .carried ≡ c
+close-refused c number values e = go (badLoad (c .load)) refl
+  where
+    go : (bad : Bool) → badLoad (c .load) ≡ bad → closeOf c .carried ≡ c
+    go true p = ap (λ (k : Call). k .carried) (close-bad c p)
+    go false p = absurd (never (sym e ∙ ap (λ (k : Call). k .answer) (close-done c p)))
+
+pub refused-pieces : RefusedPieces
+refused-pieces = record { piece = refuses; close = close-refused }
 
 each-fresh : (n i : ℕ) → i < n → _≡_ {A = ℕ} (getD (replicate n 0x02000000) i 0) 0x02000000
 each-fresh zero i h = absurd (omega arith)
@@ -72,21 +67,12 @@ each-fresh (suc n) zero h = refl
 each-fresh (suc n) (suc i) h = each-fresh n i (omega arith)
 
 pub fresh-expander : FreshExpander
-fresh-expander = record { mask = refl; count = refl; each = each-fresh 32 }
+fresh-expander = record { mask = refl; count = refl; each = each-fresh 32; load = refl }
 
 -- what an accepted call has written fits
 pub accepted-fits : (m : List ℕ) (c : Carried) (l out : List ℕ) (n : ℕ) → expandOf m c l out .answer ≡ accepted n → n ≤ length out
-unfolding expandOf
-accepted-fits m c l out n e = go (badLength m l) (faultOf m (c .«high_mask») NoLoad l) (shortOutput out k) refl e
-  where
-    k : ℕ
-    k = length (expansionOf m c l .words)
+accepted-fits m c l out n e = ltb-false (length out) n (neither (ltb (length out) n) (ltb 65536 n) (accepts m c l out n e .room) .0)
 
-    go : (long : Bool) (fault : Told (Unit {0})) (short : Bool) → shortOutput out k ≡ short →
-        cond long (refusedBy 4 c out) (unlessRefused fault c out (cond short (refusedBy 8 c out) (doneWith (expansionOf m c l) out))) .answer ≡ accepted n → n ≤ length out
-    go true fault short s h = let z : _≡_ {A = ℕ} 0 1 = cc in absurd (omega arith)
-    go false (refused number values) short s h = let z : _≡_ {A = ℕ} 0 1 = cc in absurd (omega arith)
-    go false (accepted x) true s h = let z : _≡_ {A = ℕ} 0 1 = cc in absurd (omega arith)
-    go false (accepted x) false s h =
-        let same : k ≡ n = cc in
-        omega (arith, ltb-false (length out) k (neither (ltb (length out) k) (ltb 65536 k) s .0))
+pub answer-fits : (m : List ℕ) (c : Carried) (l out : List ℕ) (a : Answer) (after : Carried) (now : List ℕ) → call (told a) after now ≡ expandOf m c l out → answered a ≤ length out
+answer-fits m c l out (Done n) after now e = accepted-fits m c l out n (sym (ap (λ (k : Call). k .answer) e))
+answer-fits m c l out (Refused r) after now e = omega arith

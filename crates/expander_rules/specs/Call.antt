@@ -1,4 +1,5 @@
--- A whole call of the expander: its answer in the documents' numbers, what is carried, and the output afterwards.
+-- A call of the expander, for a piece of a stream, and the close after the last piece: the answer in the documents' numbers, what is
+-- carried, and the output afterwards.
 use Prim.Native.Nat.{ℕ}
 use mathlib.Core.Bool.{Bool, false, cond, not, _&&_, _||_}
 use mathlib.Core.List.{List, [], _∷_}
@@ -12,7 +13,7 @@ use Rattle.replay_buffer.specs.Replay.{Buffer, buffer, playWords, anyObeyedBadl
 use Rattle.replay_buffer.specs.declared.load.Load.{Load}
 use Rattle.replay_buffer.specs.declared.load.Load.the-variants.{NoLoad}
 use Rattle.expander_rules.specs.Stream.{opcode, wordOf, streamOf}
-use Rattle.expander_rules.specs.State.{carry}
+use Rattle.expander_rules.specs.State.{carry, badLoad}
 use Rattle.expander_rules.specs.declared.Answer.{Answer}
 use Rattle.expander_rules.specs.declared.Answer.the-variants.{Done, Refused}
 use Rattle.expander_rules.specs.declared.Carried.{Carried}
@@ -22,6 +23,11 @@ use Rattle.machine.specs.Sizes.{streamMost}
 abbrev pub told : Answer → Told ℕ
 told (Done n) = accepted n
 told (Refused r) = refusal r
+
+-- how many words it says were written
+abbrev pub answered : Answer → ℕ
+answered (Done n) = n
+answered (Refused r) = 0
 
 pub record Call : Type 0 where
   pub answer : Told ℕ
@@ -66,16 +72,16 @@ pub record Expansion : Type 0 where
 abbrev pub expansion : List ℕ → Carried → Expansion
 expansion l c = record { words = l; carried = c }
 
--- "The end of a stream during a load ends the load with what came"
-abbrev pub ended : ℕ → Buffer → Carried
-ended high b = carry high (b .slots)
+-- a load goes on over the end of a piece
+abbrev pub handedOn : ℕ → Buffer → Carried
+handedOn high b = carry high (b .slots) (b .load)
 
--- the replay stage of what leaves the MOP stage
+-- the replay stage of what leaves the MOP stage, from the load that is carried
 unfoldable pub expansionOf : List ℕ → Carried → List ℕ → Expansion
 expansionOf m c l =
     let mops = streamOf m (c .«high_mask») l in
-    let replayed = playWords (buffer (c .slots) NoLoad) (mops .words) in
-    expansion (replayed .words) (ended (mops .high) (replayed .buffer))
+    let replayed = playWords (buffer (c .slots) (c .load)) (mops .words) in
+    expansion (replayed .words) (handedOn (mops .high) (replayed .buffer))
 
 -- the most words that a call may need
 abbrev pub neededMost : ℕ
@@ -100,6 +106,11 @@ doneWith e out = call (accepted (length (e .words))) (e .carried) (over out 0 (e
 unfoldable pub expandOf : List ℕ → Carried → List ℕ → List ℕ → Call
 expandOf m c l out =
     cond (badLength m l) (refusedBy 4 c out)
-    (unlessRefused (faultOf m (c .«high_mask») NoLoad l) c out
+    (cond (badLoad (c .load)) (refusedBy 10 c out)
+    (unlessRefused (faultOf m (c .«high_mask») (c .load) l) c out
     (cond (shortOutput out (length (expansionOf m c l .words))) (refusedBy 8 c out)
-    (doneWith (expansionOf m c l) out)))
+    (doneWith (expansionOf m c l) out))))
+
+-- "A close after the last piece does what the end of a stream did": it "ends the load with what came" (K1), and writes nothing
+unfoldable pub closeOf : Carried → Call
+closeOf c = cond (badLoad (c .load)) (refusedBy 10 c []) (call (accepted 0) (carry (c .«high_mask») (c .slots) NoLoad) [])

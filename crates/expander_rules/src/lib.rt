@@ -1,13 +1,15 @@
-// What the expander is (document 01, "Expander"; document 02, K1): its definitions, the laws that the code cites, and what holds of all
+// What the expander is (document 01, "Expander"; document 02, K1 and K2): its definitions, the laws that the code cites, and what holds of all
 // calls.
-ghost use Rattle.expander_rules.specs.Promises.{CutAnywhere, ExpanderExamples, Stages, PlainStreams, SlotsHandedBack, FreshExpander};
+ghost use Rattle.expander_rules.specs.Promises.{CutAnywhere, JoinedPieces, RefusedPieces, CarriesFormed, EmptyLoads, ExpanderExamples, Stages, PlainStreams, SlotsHandedBack, FreshExpander};
 use machine::refusal::Refusal;
 use replay_buffer::SLOTS;
+use replay_buffer::load::Load;
 
-// What a thread's expander carries from one call to the next: the high mask, and the slots of the replay stage.
+// What a thread's expander carries from one piece of its stream to the next: the high mask, and slots and load of the replay stage.
 pub struct Carried {
     pub high_mask: u16,
     pub slots: [u32; SLOTS],
+    pub load: Load,
 }
 
 pub enum Answer {
@@ -24,6 +26,10 @@ pub struct Expanded {
 // What is promised of the expander as a whole.
 pub fn promises()
     ensures cut { λ _. ⌜ CutAnywhere ⌝ }
+    ensures joined { λ _. ⌜ JoinedPieces ⌝ }
+    ensures refused { λ _. ⌜ RefusedPieces ⌝ }
+    ensures formed { λ _. ⌜ CarriesFormed ⌝ }
+    ensures empty { λ _. ⌜ EmptyLoads ⌝ }
     ensures examples { λ _. ⌜ ExpanderExamples ⌝ }
     ensures stages { λ _. ⌜ Stages ⌝ }
     ensures plain { λ _. ⌜ PlainStreams ⌝ }

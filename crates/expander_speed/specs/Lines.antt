@@ -23,9 +23,9 @@ callLine (refused number values) c sum = line 4 number 0 (c .«high_mask») sum
 abbrev pub calledLine : Call → Line
 calledLine k = callLine (k .answer) (k .carried) (checksumOf (addBytes startSums (bytesOf (enc 4) (k .output))))
 
--- the seed is the high mask, and the slots are fresh
+-- the seed is the high mask, and slots and load are fresh
 abbrev pub expansionLine : Job → List ℕ → List ℕ → List ℕ → Line
-expansionLine j nine stream out = calledLine (expansionsOf nine stream (j .times) (carry (j .seed % 65536) (freshCarried .slots)) out)
+expansionLine j nine stream out = calledLine (expansionsOf nine stream (j .times) (carry (j .seed % 65536) (freshCarried .slots) (freshCarried .load)) out)
 
 -- room for the most words
 unfoldable pub wordRoom : List ℕ

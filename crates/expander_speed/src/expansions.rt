@@ -47,15 +47,17 @@ fn line_of(done: Expanded, sum: u32) -> Line
     }
 }
 
-// What the first call takes: the seed is the high mask, and the slots are fresh.
+// What the first call takes: the seed is the high mask, and slots and load are fresh.
 fn first_carried(seed: u32) -> Carried
-    ensures { λ r. ⌜ r ≡ carry (seed % 65536) (freshCarried .slots) ⌝ }
+    ensures { λ r. ⌜ r ≡ carry (seed % 65536) (freshCarried .slots) (freshCarried .load) ⌝ }
 {
     let fresh = expander::fresh_carried();
     let slots = fresh.slots;
+    let load = fresh.load;
     Carried {
         high_mask: (seed % 65536) as u16,
         slots,
+        load,
     }
 }
 

@@ -1,52 +1,19 @@
-// Runs the expander on the cases of standard input and writes a line for each: the answer, the high mask handed back, and checksums
-// of the slots handed back and of the whole output. Before them it writes mask and slots of a fresh expander. oracle/cases_expander.py
-// makes the cases and the lines that are expected.
+// Runs the expander on the cases of standard input and writes a line for each: the answer of one call, or what its pieces came to; the
+// high mask carried on, the slots' checksum and the load; the checksum of the whole output; and what a close then gives. Before them
+// it writes what a fresh expander carries. oracle/cases_expander.py makes the cases and the lines that are expected.
 mod case;
 mod draws;
+mod lines;
+mod pieces;
 
 use case::Case;
 use draws::Replays;
-use expander_rules::Answer;
 use expander_rules::Carried;
-use expander_rules::Expanded;
 use libc::STDIN_FILENO;
 use libc::STDOUT_FILENO;
-use machine::refusal::refusal_number;
+use pieces::Fed;
 use replay_buffer::SLOTS;
 use seeded::sums;
-
-fn print_answer(answer: Answer) {
-    match answer {
-        Answer::Done(n) => {
-            io::write_all(STDOUT_FILENO, b"done ");
-            io::print_decimal(STDOUT_FILENO, n as u64);
-        }
-        Answer::Refused(r) => {
-            io::write_all(STDOUT_FILENO, b"refused ");
-            io::print_decimal(STDOUT_FILENO, refusal_number(r) as u64);
-        }
-    }
-}
-
-// The high mask and the slots' checksum.
-fn print_carried(carried: Carried) {
-    let slots = carried.slots;
-    let sum = sums::add_words(sums::start(), &slots);
-    io::write_all(STDOUT_FILENO, b" ");
-    io::print_decimal(STDOUT_FILENO, carried.high_mask as u64);
-    io::write_all(STDOUT_FILENO, b" ");
-    io::print_decimal(STDOUT_FILENO, sums::checksum(sum) as u64);
-}
-
-fn print_line(r: Expanded, sum: u32) {
-    let answer = r.answer;
-    let carried = r.carried;
-    print_answer(answer);
-    print_carried(carried);
-    io::write_all(STDOUT_FILENO, b" ");
-    io::print_decimal(STDOUT_FILENO, sum as u64);
-    io::write_all(STDOUT_FILENO, b"\n");
-}
 
 // The nine words: m0 and m1 are the case's, and some of the others become REPLAYs.
 fn make_nine(nine: &mut [u32], m0: u32, m1: u32, replays: Replays, state: u32) -> u32 {
@@ -73,8 +40,31 @@ fn make_slots(replays: Replays, state: u32) -> Slots {
 
 fn run_call(nine: &[u32], carried: Carried, stream: &[u32], out: &mut [u32]) {
     let r = expander::expand(nine, carried, stream, out);
-    let sum = sums::add_words(sums::start(), out);
-    print_line(r, sums::checksum(sum));
+    lines::print_call(r);
+    let after = r.carried;
+    lines::print_end(after, out);
+}
+
+fn print_pieces(fed: Fed, out: &[u32]) {
+    io::write_all(STDOUT_FILENO, b"pieces");
+    lines::print_number(fed.taken as u64);
+    lines::print_number(fed.at as u64);
+    let sum = fed.sum;
+    lines::print_number(sums::checksum(sum) as u64);
+    let after = fed.carried;
+    lines::print_carried(after);
+    lines::print_end(after, out);
+}
+
+// Below 65,536 `cuts` asks for a cut at each place; else it is the seed of the pieces' lengths, and its low half their span.
+fn run_pieces(nine: &[u32], carried: Carried, stream: &[u32], cuts: u32, out: &mut [u32]) {
+    if cuts < 65536 {
+        let fed = pieces::feed_places(nine, carried, stream, out);
+        print_pieces(fed, out);
+    } else {
+        let fed = pieces::feed_drawn(nine, carried, stream, cuts, out);
+        print_pieces(fed, out);
+    }
 }
 
 // The nine words, the stream and the output are what the case makes of the three slices.
@@ -84,11 +74,17 @@ fn run_case(case: Case, nine: &mut [u32], stream: &mut [u32], out: &mut [u32]) {
     let slots = made.slots;
     let b = draws::make_stream(stream, case.mix, made.state);
     draws::fill(out, b);
+    let load = case.load;
     let carried = Carried {
         high_mask: case.high,
         slots,
+        load,
     };
-    run_call(nine, carried, stream, out);
+    if case.pieces == 0 {
+        run_call(nine, carried, stream, out);
+    } else {
+        run_pieces(nine, carried, stream, case.pieces, out);
+    }
 }
 
 // Reads one case and runs it, and answers whether there was one that fits.
@@ -130,7 +126,7 @@ fn all_cases(nine: &mut [u32], stream: &mut [u32], out: &mut [u32]) {
 
 fn print_fresh(carried: Carried) {
     io::write_all(STDOUT_FILENO, b"fresh");
-    print_carried(carried);
+    lines::print_carried(carried);
     io::write_all(STDOUT_FILENO, b"\n");
 }
 

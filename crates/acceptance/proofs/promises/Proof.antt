@@ -12,15 +12,17 @@ use Rattle.image.proofs.Trips.{image-facts, round-trips}
 use Rattle.dest_access.proofs.DestBack.{dest-promises}
 use Rattle.gpr_access.proofs.GprBack.{gpr-promises}
 use Rattle.source_access.proofs.SourceBack.{source-promises}
-use Rattle.expander_rules.proofs.Folds.{cut}
-use Rattle.expander_rules.proofs.Whole.{stages, plain-streams, slots-handed-back, fresh-expander}
+use Rattle.expander_rules.proofs.Pieces.{cut, joined-pieces}
+use Rattle.expander_rules.proofs.Formed.{carries-formed}
+use Rattle.expander_rules.proofs.Empty.{empty-loads}
+use Rattle.expander_rules.proofs.Whole.{refused-pieces, stages, plain-streams, slots-handed-back, fresh-expander}
 use Rattle.replay_buffer.proofs.Back.{back}
 use Rattle.acceptance.proofs.Worked.{all-worked}
 use Rattle.acceptance.proofs.promises.Statement.{statement}
 use Rattle.acceptance.proofs.promises.Tie as tie
 
 returns : tie.Need-returns
-returns c = (isolated, (all-worked, (unchanged, (keeps-formed, (chained, (observed, (offered-again, (ended, (run-keeps, (stuck-for-good, (views-cover, (image-facts, (round-trips, (gpr-promises, (dest-promises, (source-promises, (cut, (stages, (plain-streams, (back, (slots-handed-back, fresh-expander)))))))))))))))))))))
+returns c = (isolated, (all-worked, (unchanged, (keeps-formed, (chained, (observed, (offered-again, (ended, (run-keeps, (stuck-for-good, (views-cover, (image-facts, (round-trips, (gpr-promises, (dest-promises, (source-promises, (cut, (joined-pieces, (refused-pieces, (carries-formed, (empty-loads, (stages, (plain-streams, (back, (slots-handed-back, fresh-expander)))))))))))))))))))))))))
 
 pub promises-spec : {M : Type 1} → statement M
 promises-spec = tie.close (tie.spec returns)

@@ -1,4 +1,4 @@
-use Rattle.expand.proofs.Printed.{answer-fits}
+use Rattle.expander_rules.proofs.Whole.{answer-fits}
 use native.Mathlib.Omega.{arith}
 use borrow.Author.Needs.{needs}
 use Rattle.expand.proofs.expand_words.Statement.{statement}

@@ -1,4 +1,4 @@
-use Rattle.expand.specs.Sizes.{answered}
+use Rattle.expander_rules.specs.Call.{answered}
 use Prim.Native.Nat.{_≤_}
 use mathlib.Core.Path.{_≡_}
 use lib.ListN.{length-take, length}

@@ -1,7 +1,6 @@
 use Rattle.expander_rules.proofs.Faults.{fault-many, fault-bad, fault-end, fault-on, count-on, count-end}
 use Rattle.expander_rules.specs.Call.{isTemplate1, overRounds, faultOf}
 use Rattle.expander_rules.specs.Stream.{streamOf}
-use Rattle.replay_buffer.specs.declared.load.Load.the-variants.{NoLoad}
 use Rattle.replay_buffer.specs.Counts.{capped, countAll}
 use Rattle.answers.specs.Answers.{accepted, refused}
 use lib.ListN.{length, getD, drop}
@@ -14,28 +13,28 @@ use Rattle.expander.proofs.survey.survey_stream.Statement.{statement}
 use Rattle.expander.proofs.survey.survey_stream.Tie as tie
 
 abbrev Inv-loop : tie.InvT-loop
-Inv-loop nine high input limit room₀ over plain mask₀ load₀ count₀ i₀ room mask load count i = (i ≤ length input) × (length room ≡ 640) × (count ≤ limit + 1) × (faultOf nine mask load (drop i input) ≡ faultOf nine high NoLoad input) × (capped limit (count + countAll load (streamOf nine mask (drop i input) .words)) ≡ capped limit (countAll NoLoad (streamOf nine high input .words)))
+Inv-loop nine high input limit room₀ over plain mask₀ on₀ count₀ i₀ room mask on count i = (i ≤ length input) × (length room ≡ 640) × (count ≤ limit + 1) × (faultOf nine mask on (drop i input) ≡ faultOf nine high on₀ input) × (capped limit (count + countAll on (streamOf nine mask (drop i input) .words)) ≡ capped limit (countAll on₀ (streamOf nine high input .words)))
 
 abbrev μ-loop : tie.MeasureT-loop
-μ-loop nine high input limit room₀ over plain mask₀ load₀ count₀ i₀ room mask load count i = length input - i
+μ-loop nine high input limit room₀ over plain mask₀ on₀ count₀ i₀ room mask on count i = length input - i
 
 loop-holds : tie.Need-loop-holds Inv-loop μ-loop
 loop-holds c = (omega arith, c .before .before .before .before .before .pre .2, omega arith, refl, omega arith)
 
 returns : tie.Need-returns Inv-loop μ-loop
-returns c = let a = c .before .before .before .before .before .before .before .before .before .before .before .args in let m = a .nine .now in let l = c .before .before .before .before .before .loop in let many : (overRounds m && isTemplate1 (getD (a .input .now) (l .i) 0)) ≡ true = rw (← c .before .before .before .before .before .before .before .over-rounds .ensures, ← c .before .before .is-template-1 .ensures, ← c .before .both .ensures, c .if1 .taken) in (sym (fault-many m (l .mask) (l .load) (a .input .now) (l .i) (c .before .before .before .before .loop-test .taken) many) ∙ l .inv .3, λ h. cc)
+returns c = let a = c .before .before .before .before .before .before .before .before .before .before .before .args in let m = a .nine .now in let l = c .before .before .before .before .before .loop in let many : (overRounds m && isTemplate1 (getD (a .input .now) (l .i) 0)) ≡ true = rw (← c .before .before .before .before .before .before .before .over-rounds .ensures, ← c .before .before .is-template-1 .ensures, ← c .before .both .ensures, c .if1 .taken) in (sym (fault-many m (l .mask) (l .on) (a .input .now) (l .i) (c .before .before .before .before .loop-test .taken) many) ∙ l .inv .3, λ h. cc)
 
 survey-emission-requires : tie.Need-survey-emission-requires Inv-loop μ-loop
 survey-emission-requires c κs = let a = c .before .before .before .before .before .before .before .before .before .before .before .before .args in let m = a .nine .now in let l = c .before .before .before .before .before .before .loop in let few : (overRounds m && isTemplate1 (getD (a .input .now) (l .i) 0)) ≡ false = rw (← c .before .before .before .before .before .before .before .before .over-rounds .ensures, ← c .before .before .before .is-template-1 .ensures, ← c .before .before .both .ensures, c .before .if1 .left) in (c .before .before .before .before .before .before .before .before .before .before .before .before .pre .0, ap not (c .before .before .before .before .before .before .before .any-replay .ensures), few, l .inv .2, c .before .before .before .before .before .before .before .before .before .before .before .before .pre .1, l .inv .1)
 
 returns-2 : tie.Need-returns-2 Inv-loop μ-loop
-returns-2 c = let a = c .before .before .before .before .before .before .before .before .before .before .before .before .before .before .before .before .args in let m = a .nine .now in let l = c .before .before .before .before .before .before .before .before .before .before .loop in let few : (overRounds m && isTemplate1 (getD (a .input .now) (l .i) 0)) ≡ false = rw (← c .before .before .before .before .before .before .before .before .before .before .before .before .over-rounds .ensures, ← c .before .before .before .before .before .before .before .is-template-1 .ensures, ← c .before .before .before .before .before .before .both .ensures, c .before .before .before .before .before .if1 .left) in (sym (fault-bad m (l .mask) (l .load) (a .input .now) (l .i) (c .before .before .before .before .before .before .before .before .before .loop-test .taken) few (sym (c .before .before .before .survey-emission .ensures .judged) ∙ c .if2 .taken)) ∙ l .inv .3, λ h. cc)
+returns-2 c = let a = c .before .before .before .before .before .before .before .before .before .before .before .before .before .before .before .before .args in let m = a .nine .now in let l = c .before .before .before .before .before .before .before .before .before .before .loop in let few : (overRounds m && isTemplate1 (getD (a .input .now) (l .i) 0)) ≡ false = rw (← c .before .before .before .before .before .before .before .before .before .before .before .before .over-rounds .ensures, ← c .before .before .before .before .before .before .before .is-template-1 .ensures, ← c .before .before .before .before .before .before .both .ensures, c .before .before .before .before .before .if1 .left) in (sym (fault-bad m (l .mask) (l .on) (a .input .now) (l .i) (c .before .before .before .before .before .before .before .before .before .loop-test .taken) few (sym (c .before .before .before .survey-emission .ensures .judged) ∙ c .if2 .taken)) ∙ l .inv .3, λ h. cc)
 
 loop-again : tie.Need-loop-again Inv-loop μ-loop
-loop-again c = let a = c .before .before .before .before .before .before .before .before .before .before .before .before .before .before .before .before .before .args in let m = a .nine .now in let l = c .before .before .before .before .before .before .before .before .before .before .before .loop in let p = c .before .before .before .before .survey-emission .ensures in let few : (overRounds m && isTemplate1 (getD (a .input .now) (l .i) 0)) ≡ false = rw (← c .before .before .before .before .before .before .before .before .before .before .before .before .before .over-rounds .ensures, ← c .before .before .before .before .before .before .before .before .is-template-1 .ensures, ← c .before .before .before .before .before .before .before .both .ensures, c .before .before .before .before .before .before .if1 .left) in (omega arith, search needs, p .small, fault-on m (l .mask) (l .load) (a .input .now) (l .i) (c .before .before .before .before .before .before .before .before .before .before .loop-test .taken) few _ (c .mask-after .ensures m) _ (p .onward (c .before .if2 .left)) (sym (p .judged) ∙ c .before .if2 .left) ∙ l .inv .3, count-on m (l .mask) (l .load) (a .input .now) (l .i) (c .before .before .before .before .before .before .before .before .before .before .loop-test .taken) few _ (c .mask-after .ensures m) p (c .before .if2 .left) ∙ l .inv .4)
+loop-again c = let a = c .before .before .before .before .before .before .before .before .before .before .before .before .before .before .before .before .before .args in let m = a .nine .now in let l = c .before .before .before .before .before .before .before .before .before .before .before .loop in let p = c .before .before .before .before .survey-emission .ensures in let few : (overRounds m && isTemplate1 (getD (a .input .now) (l .i) 0)) ≡ false = rw (← c .before .before .before .before .before .before .before .before .before .before .before .before .before .over-rounds .ensures, ← c .before .before .before .before .before .before .before .before .is-template-1 .ensures, ← c .before .before .before .before .before .before .before .both .ensures, c .before .before .before .before .before .before .if1 .left) in (omega arith, search needs, p .small, fault-on m (l .mask) (l .on) (a .input .now) (l .i) (c .before .before .before .before .before .before .before .before .before .before .loop-test .taken) few _ (c .mask-after .ensures m) _ (p .onward (c .before .if2 .left)) (sym (p .judged) ∙ c .before .if2 .left) ∙ l .inv .3, count-on m (l .mask) (l .on) (a .input .now) (l .i) (c .before .before .before .before .before .before .before .before .before .before .loop-test .taken) few _ (c .mask-after .ensures m) p (c .before .if2 .left) ∙ l .inv .4)
 
 returns-3 : tie.Need-returns-3 Inv-loop μ-loop
-returns-3 c = let a = c .before .before .before .before .before .before .before .args in let m = a .nine .now in let l = c .before .loop in (sym (fault-end m (l .mask) (l .load) (a .input .now) (l .i) (c .loop-test .left)) ∙ l .inv .3, λ h. omega (arith, l .inv .2, l .inv .4, count-end m (l .mask) (l .load) (a .input .now) (l .i) (c .loop-test .left)))
+returns-3 c = let a = c .before .before .before .before .before .before .before .args in let m = a .nine .now in let l = c .before .loop in (sym (fault-end m (l .mask) (l .on) (a .input .now) (l .i) (c .loop-test .left)) ∙ l .inv .3, λ h. omega (arith, l .inv .2, l .inv .4, count-end m (l .mask) (l .on) (a .input .now) (l .i) (c .loop-test .left)))
 
 pub survey-stream-spec : {M : Type 1} → statement M
 survey-stream-spec =

@@ -1,0 +1,20 @@
+use Rattle.carried_record.specs.CarriedFormat.{afterKind}
+use borrow.Author.Tests.{eq-eqb, ne-eqb}
+use borrow.Author.Needs.{needs}
+use Rattle.carried_record.proofs.most_after.Statement.{statement}
+use Rattle.carried_record.proofs.most_after.Tie as tie
+
+returns : tie.Need-returns
+unfolding afterKind
+returns c = simp (eq-eqb _ _ (c .if1 .taken))
+
+returns-2 : tie.Need-returns-2
+unfolding afterKind
+returns-2 c = simp (ne-eqb _ _ (c .if1 .left))
+
+pub most-after-spec : {M : Type 1} → statement M
+most-after-spec =
+    tie.close
+    (tie.spec
+    returns
+    returns-2)
