@@ -1,10 +1,9 @@
 -- M1 to M11: each word is decoded and done by computation, on any machine.
 use Prim.Native.Nat.{ℕ, _+_, _*_, _%_, _^_, _≤_, _<_}
 use mathlib.Core.Path.{_≡_, refl, ap, _∙_}
-use mathlib.Core.Bool.{Bool, true, false, _&&_, _||_}
+use mathlib.Core.Bool.{Bool, true, false, _&&_}
 use mathlib.Core.List.{List, [], _∷_}
 use native.Mathlib.Omega.{arith}
-use lib.Dec.{ltb}
 use lib.ListN.{length, set}
 use borrow.Author.Tests.{le-ltb, le-leb}
 use Rattle.bits.specs.Field.{field, withByte, withLow}

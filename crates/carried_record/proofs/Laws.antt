@@ -1,14 +1,13 @@
 -- Record 38 is a right format.
 use Prim.Native.Nat.{ℕ, zero, suc, _≤_, _<_}
 use mathlib.Core.Bool.{Bool, true, false, cond}
-use mathlib.Core.List.{List}
-use mathlib.Core.Path.{_≡_, refl, ap, ap₂}
+use mathlib.Core.Path.{_≡_, refl, ap}
 use native.Mathlib.Omega.{arith}
 use lib.Dec.{eqb, lit<}
 use lib.ListN.{length}
 use borrow.Author.Tests.{ne-eqb}
 use Rattle.bits.specs.Ranges.{allAtMost}
-use Rattle.format.specs.Format.{Format, num, both, numbers}
+use Rattle.format.specs.Format.{num, both, numbers}
 use Rattle.format.proofs.Lawful.{Lawful, num-lawful, dep-lawful, both-lawful, numbers-lawful, via-lawful, kind-lawful, kind-ok, numbers-ok, whole-accepts, whole-get, whole-put}
 use Rattle.replay_buffer.specs.declared.load.Load.{Load}
 use Rattle.replay_buffer.specs.declared.load.Load.the-variants.{NoLoad, Taking}

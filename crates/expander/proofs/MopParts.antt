@@ -1,14 +1,14 @@
 -- Laws of a MOP in parts: what a part is, by the tests that the code makes, and that it has at most 640 words.
 use Prim.Native.Nat.{ℕ, _+_, _*_, _-_, _/_, _%_, _≤_}
-use mathlib.Core.Bool.{Bool, true, false, cond, _&&_, _||_}
+use mathlib.Core.Bool.{Bool, true, false, cond, _&&_}
 use mathlib.Core.List.{List, [], _∷_, append-nil}
-use mathlib.Core.Path.{_≡_, refl, sym, _∙_}
-use native.Mathlib.Nat.{div-one, sub-zero}
+use mathlib.Core.Path.{_≡_, refl, sym}
+use native.Mathlib.Nat.{sub-zero}
 use native.Mathlib.Omega.{arith}
 use lib.Dec.{ltb}
 use lib.ListN.{length, take, drop}
 use lib.Seq.{take-at}
-use borrow.Author.Tests.{eq-eqb, ne-eqb, ltb-false}
+use borrow.Author.Tests.{ne-eqb, ltb-false}
 use Rattle.bits.specs.Field.{field, flag}
 use Rattle.bits.specs.Overwrite.{over, Wrote}
 use Rattle.bits.proofs.Choices.{neither, cond-both}

@@ -130,14 +130,9 @@ fn expand_plain(
         return refuse(Refusal::ShortOutput, carried);
     }
     let put = stream::put_stream(nine, carried.high_mask, input, 0, out);
-    let slots = carried.slots;
-    let load = carried.load;
     let answer = Answer::Done(needed);
-    let after = Carried {
-        high_mask: put.high,
-        slots,
-        load,
-    };
+    let mut after = carried;
+    after.high_mask = put.high;
     Expanded {
         answer,
         carried: after,
@@ -161,9 +156,8 @@ pub fn expand(nine: &[u32], carried: Carried, input: &[u32], out: &mut [u32]) ->
         return refuse(Refusal::Malformed, carried);
     }
     let limit = least(out.len(), NEEDED_MOST);
-    let on = is_loading(load);
     let replays = bits::either(any_replay(nine), any_replay(input));
-    let special = bits::either(on, replays);
+    let special = bits::either(replays, is_loading(load));
     if special {
         return expand_replayed(nine, carried, input, limit, out);
     }

@@ -1,5 +1,5 @@
 // Looking ahead over a stream: refusals 7 and 13 in one pass, and the words that it gives, up to one past a limit.
-ghost use mathlib.Core.Bool.{Bool, false, not, _&&_};
+ghost use mathlib.Core.Bool.{false, not, _&&_};
 ghost use mathlib.Core.Path.{_≡_};
 ghost use Prim.Native.Nat.{_+_, _≤_};
 ghost use lib.ListN.{length};

@@ -1,8 +1,8 @@
 -- What a call comes to in each case.
 use Prim.Native.Nat.{ℕ, _≤_, _<_, min}
-use mathlib.Core.Bool.{Bool, true, false, cond, _&&_}
+use mathlib.Core.Bool.{Bool, true, false, cond}
 use mathlib.Core.List.{List, []}
-use mathlib.Core.Path.{_≡_, refl, sym, ap, _∙_}
+use mathlib.Core.Path.{_≡_, refl, sym, ap}
 use native.Mathlib.Omega.{arith}
 use lib.Dec.{ltb}
 use lib.ListN.{length}
@@ -14,7 +14,7 @@ use Rattle.replay_buffer.specs.declared.load.Load.{Load}
 use Rattle.replay_buffer.specs.declared.load.Load.the-variants.{NoLoad}
 use Rattle.replay_buffer.specs.Counts.{countAll}
 use Rattle.replay_buffer.proofs.Folds.{play-long}
-use Rattle.expander_rules.specs.Call.{Call, call, badLength, badRounds, faultOf, neededMost, shortOutput, refusedBy, unlessRefused, doneWith, Expansion, expansion, expansionOf, expandOf, closeOf}
+use Rattle.expander_rules.specs.Call.{call, badLength, badRounds, faultOf, neededMost, shortOutput, refusedBy, unlessRefused, doneWith, Expansion, expansion, expansionOf, expandOf, closeOf}
 use Rattle.expander_rules.specs.Counts.{streamCount}
 use Rattle.expander_rules.specs.Promises.{mopCallOf}
 use Rattle.expander_rules.specs.State.{carry, badLoad}

@@ -1,21 +1,18 @@
 -- A carried load with no words to come takes nothing.
-use Prim.Native.Nat.{ℕ, _≤_}
-use mathlib.Core.Bool.{Bool, true, false, cond, not, _&&_, _||_}
+use Prim.Native.Nat.{ℕ}
+use mathlib.Core.Bool.{Bool, true, false, cond, _&&_}
 use mathlib.Core.List.{List, [], _∷_, _++_}
-use mathlib.Core.Path.{_≡_, refl, sym, ap, _∙_}
-use lib.Dec.{ltb}
+use mathlib.Core.Path.{_≡_, refl, ap}
 use lib.ListN.{length}
 use borrow.Author.Tests.{le-ltb}
-use Rattle.bits.specs.Overwrite.{over}
-use Rattle.answers.specs.Answers.{Told, accepted, refused, provided}
-use Rattle.replay_buffer.specs.Replay.{isReplay, isLoad, loading, loadBy, loadAfter, loadsAfter, obeyedBadly, anyObeyedBadly, Buffer, buffer, written, writtenObeyed, slotsAfter, Played, played, playedThen, playWord, playWords}
+use Rattle.answers.specs.Answers.{Told, accepted, refused}
+use Rattle.replay_buffer.specs.Replay.{isReplay, isLoad, loading, loadBy, loadAfter, loadsAfter, obeyedBadly, anyObeyedBadly, Buffer, buffer, written, slotsAfter, Played, played, playWords}
 use Rattle.replay_buffer.specs.declared.load.Load.{Load}
 use Rattle.replay_buffer.specs.declared.load.Load.the-variants.{NoLoad, Taking}
-use Rattle.expander_rules.specs.Call.{Call, call, badLength, isTemplate1, overRounds, faultOf, shortOutput, refusedBy, unlessRefused, doneWith, Expansion, expansion, expansionOf, expandOf}
+use Rattle.expander_rules.specs.Call.{badLength, faultOf, shortOutput, refusedBy, unlessRefused, doneWith, expansion, expansionOf, expandOf}
 use Rattle.expander_rules.specs.Promises.{SameButLoad, EmptyLoads}
 use Rattle.expander_rules.specs.State.{carry, badLoad}
 use Rattle.expander_rules.specs.Stream.{wordOf, streamOf}
-use Rattle.expander_rules.specs.declared.Carried.{Carried}
 
 -- two loads that take the same words: one and the same, or neither takes any
 data Alike (a b : Load) : Type 0 where

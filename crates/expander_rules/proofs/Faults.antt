@@ -1,21 +1,20 @@
 -- Laws of refusals 7 and 13, and of the words that a stream gives at the replay stage.
 use Prim.Native.Nat.{ℕ, suc, _+_, _≤_, _<_}
 use mathlib.Core.Bool.{Bool, true, false, cond, not, _&&_, _||_}
-use mathlib.Core.List.{List, [], _∷_, _++_}
-use mathlib.Core.Path.{_≡_, refl, sym, ap, _∙_}
+use mathlib.Core.List.{List, [], _∷_}
+use mathlib.Core.Path.{_≡_, refl, sym, _∙_}
 use native.Mathlib.Numerals.{add-one}
 use native.Mathlib.Omega.{arith}
 use lib.ListN.{length, getD, drop, drop-of-length-le}
 use lib.Seq.{drop-cons}
 use Rattle.answers.specs.Answers.{Told, accepted, refused, provided}
-use Rattle.bits.specs.Field.{flag}
 use Rattle.bits.proofs.Choices.{neither, and-left, and-right}
 use Rattle.replay_buffer.specs.Replay.{anyObeyedBadly, anyReplay, loadsAfter}
 use Rattle.replay_buffer.specs.Counts.{capped, countAll, Surveyed}
 use Rattle.replay_buffer.specs.declared.load.Load.{Load}
 use Rattle.replay_buffer.specs.declared.survey.Survey.{Survey}
 use Rattle.replay_buffer.proofs.Folds.{any-append, plain-fine, count-append}
-use Rattle.expander_rules.specs.Stream.{Emission, wordOf, streamOf}
+use Rattle.expander_rules.specs.Stream.{wordOf, streamOf}
 use Rattle.expander_rules.specs.Call.{isTemplate1, anyTemplate1, overRounds, faultOf}
 use Rattle.expander_rules.proofs.Folds.{stream-next, stream-end}
 

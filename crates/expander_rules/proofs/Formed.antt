@@ -1,14 +1,14 @@
 -- What is carried is well formed: 10 is never of an expander's own making.
-use Prim.Native.Nat.{ℕ, _+_, _-_, _%_, _<_}
+use Prim.Native.Nat.{ℕ, _+_, _-_, _%_}
 use mathlib.Core.Bool.{Bool, true, false, cond, not, _&&_, _||_}
-use mathlib.Core.List.{List, [], _∷_, _++_}
+use mathlib.Core.List.{List, [], _∷_}
 use mathlib.Core.Path.{_≡_, refl, sym, ap, _∙_}
 use native.Mathlib.Omega.{arith}
 use lib.Dec.{eqb, ltb}
-use borrow.Author.Tests.{le-ltb, ltb-true, ltb-false}
+use borrow.Author.Tests.{le-ltb, ltb-false}
 use Rattle.bits.proofs.Choices.{neither}
-use Rattle.answers.specs.Answers.{Told, accepted, refused, provided}
-use Rattle.replay_buffer.specs.Replay.{slotCount, isReplay, isLoad, startOf, lengthOf, runsWhileLoading, loading, oneTaken, loadBy, loadAfter, loadsAfter, obeyedBadly, anyObeyedBadly, buffer, playWords}
+use Rattle.answers.specs.Answers.{Told, accepted, provided}
+use Rattle.replay_buffer.specs.Replay.{slotCount, isReplay, isLoad, startOf, lengthOf, oneTaken, loadBy, loadAfter, loadsAfter, obeyedBadly, anyObeyedBadly, buffer}
 use Rattle.replay_buffer.specs.declared.load.Load.{Load}
 use Rattle.replay_buffer.specs.declared.load.Load.the-variants.{NoLoad, Taking}
 use Rattle.replay_buffer.proofs.Folds.{bad-append, play-load}
@@ -17,7 +17,7 @@ use Rattle.expander_rules.specs.Promises.{CarriesFormed}
 use Rattle.expander_rules.specs.State.{badLoad}
 use Rattle.expander_rules.specs.Stream.{wordOf, streamOf}
 use Rattle.expander_rules.specs.declared.Carried.{Carried}
-use Rattle.expander_rules.proofs.Calls.{Accepts, accepts, never, close-bad, close-done}
+use Rattle.expander_rules.proofs.Calls.{accepts, never, close-bad, close-done}
 
 -- a load that takes a word, and one that a REPLAY begins
 taken-formed : (next left : ℕ) (shown : Bool) → badLoad (Taking next left shown) ≡ false → badLoad (oneTaken (Taking next left shown)) ≡ false

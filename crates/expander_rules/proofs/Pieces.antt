@@ -1,6 +1,6 @@
 -- A stream in pieces is the stream.
-use Prim.Native.Nat.{ℕ, _+_, _≤_}
-use mathlib.Core.Bool.{Bool, true, false, not, _&&_, _||_}
+use Prim.Native.Nat.{ℕ, _+_}
+use mathlib.Core.Bool.{Bool, true, false, not, _&&_}
 use mathlib.Core.List.{List, [], _∷_, _++_}
 use mathlib.Core.Path.{_≡_, refl, sym, ap, _∙_}
 use native.Mathlib.Omega.{arith}
@@ -14,14 +14,14 @@ use Rattle.answers.specs.Answers.{Told, accepted, refused, provided}
 use Rattle.replay_buffer.specs.Replay.{buffer, playWords, anyObeyedBadly, loadsAfter}
 use Rattle.replay_buffer.specs.declared.load.Load.{Load}
 use Rattle.replay_buffer.proofs.Folds.{play-append, loads-append, play-load}
-use Rattle.expander_rules.specs.Call.{Call, badLength, isTemplate1, overRounds, faultOf, Expansion, expansion, expansionOf, doneWith, expandOf}
+use Rattle.expander_rules.specs.Call.{Call, isTemplate1, overRounds, faultOf, Expansion, expansion, expansionOf, doneWith, expandOf}
 use Rattle.expander_rules.specs.Pieces.{Piece, joined, writtenThen, allTaken}
 use Rattle.expander_rules.specs.Promises.{CutAnywhere, JoinedPieces}
 use Rattle.expander_rules.specs.State.{badLoad}
 use Rattle.expander_rules.specs.Stream.{wordOf, streamOf}
 use Rattle.expander_rules.specs.declared.Carried.{Carried}
 use Rattle.expander_rules.proofs.Folds.{stream-cut}
-use Rattle.expander_rules.proofs.Calls.{Accepts, accepts, enough-room, never}
+use Rattle.expander_rules.proofs.Calls.{accepts, enough-room, never}
 
 pub cut : CutAnywhere
 unfolding expansionOf

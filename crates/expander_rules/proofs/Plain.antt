@@ -6,7 +6,7 @@ use mathlib.Core.Path.{_≡_, refl}
 use lib.Dec.{eqb, ltb}
 use Rattle.bits.specs.Field.{field, flag}
 use Rattle.bits.proofs.Choices.{neither, cond-both}
-use Rattle.templates.specs.Templates.{nth, rounds, wordsIf, group, maskGroup, maskBit, maskRound, lastWord, innerRound, outerRound, template0, template1}
+use Rattle.templates.specs.Templates.{nth, rounds, wordsIf, group, maskGroup, maskBit, maskRound, lastWord, innerRound, outerRound}
 use Rattle.replay_buffer.specs.Replay.{isReplay, anyReplay}
 use Rattle.replay_buffer.proofs.Folds.{any-append}
 use Rattle.expander_rules.specs.Stream.{Emission, emission, opcode, mopWords, wordOf, streamOf}

@@ -9,9 +9,9 @@ use lib.ListN.{length, getD, replicate}
 use borrow.Author.Tests.{ltb-false}
 use Rattle.bits.proofs.Choices.{neither}
 use Rattle.answers.specs.Answers.{Told, accepted, refused}
-use Rattle.replay_buffer.specs.Replay.{buffer, playWords}
+use Rattle.replay_buffer.specs.Replay.{buffer}
 use Rattle.replay_buffer.proofs.Folds.{plain-words, slots-kept}
-use Rattle.expander_rules.specs.Call.{told, answered, Call, call, badLength, anyTemplate1, overRounds, faultOf, shortOutput, refusedBy, unlessRefused, doneWith, expansion, expansionOf, expandOf, closeOf}
+use Rattle.expander_rules.specs.Call.{told, answered, Call, call, badLength, anyTemplate1, overRounds, shortOutput, refusedBy, unlessRefused, doneWith, expansion, expansionOf, expandOf, closeOf}
 use Rattle.expander_rules.specs.Promises.{RefusedPieces, Stages, PlainStreams, SlotsHandedBack, FreshExpander, mopCallOf}
 use Rattle.expander_rules.specs.State.{carry, badLoad}
 use Rattle.expander_rules.specs.Stream.{streamOf}
@@ -19,7 +19,7 @@ use Rattle.expander_rules.specs.declared.Answer.{Answer}
 use Rattle.expander_rules.specs.declared.Answer.the-variants.{Done, Refused}
 use Rattle.expander_rules.specs.declared.Carried.{Carried}
 use Rattle.expander_rules.proofs.Faults.{plain-fault}
-use Rattle.expander_rules.proofs.Calls.{Accepts, accepts, refuses, never, close-bad, close-done}
+use Rattle.expander_rules.proofs.Calls.{accepts, refuses, never, close-bad, close-done}
 
 pub stages : Stages
 unfolding expansionOf

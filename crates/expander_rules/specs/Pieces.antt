@@ -3,7 +3,7 @@ use Prim.Native.Nat.{ℕ}
 use mathlib.Core.List.{List, [], _∷_, _++_}
 use lib.ListN.{take}
 use Rattle.answers.specs.Answers.{Told, accepted, refused}
-use Rattle.expander_rules.specs.Call.{Call, Expansion, expansion, expandOf}
+use Rattle.expander_rules.specs.Call.{Expansion, expansion, expandOf}
 use Rattle.expander_rules.specs.declared.Carried.{Carried}
 
 -- the words of a piece, and the output that is lent to its call

@@ -7,7 +7,7 @@ use lib.ListN.{length, getD}
 use Rattle.bits.specs.Overwrite.{over}
 use Rattle.answers.specs.Answers.{accepted, refused}
 use Rattle.machine.specs.Sizes.{streamMost}
-use Rattle.replay_buffer.specs.Replay.{slotCount, loading, buffer, playWords, anyReplay}
+use Rattle.replay_buffer.specs.Replay.{loading, buffer, playWords, anyReplay}
 use Rattle.replay_buffer.specs.declared.load.Load.the-variants.{NoLoad, Taking}
 use Rattle.expander_rules.specs.Stream.{emission, streamOf}
 use Rattle.expander_rules.specs.State.{carry, freshCarried, badLoad}

@@ -2,7 +2,7 @@ use Rattle.bits.proofs.Overwrite.{over-whole}
 use Rattle.carried_record.specs.CarriedFormat.{recordFormat}
 use native.Mathlib.Omega.{arith}
 use mathlib.Core.Path.{_∙_}
-use lib.ListN.{length, replicate}
+use lib.ListN.{replicate}
 use borrow.Author.Needs.{needs}
 use Rattle.carried_record.proofs.carried_record.Statement.{statement}
 use Rattle.carried_record.proofs.carried_record.Tie as tie

@@ -1,6 +1,5 @@
 use Rattle.carried_record.specs.CarriedFormat.{loadFrom}
 use borrow.Author.Tests.{eq-eqb, ne-eqb}
-use borrow.Author.Needs.{needs}
 use Rattle.carried_record.proofs.load_from.Statement.{statement}
 use Rattle.carried_record.proofs.load_from.Tie as tie
 

@@ -1,6 +1,5 @@
 use Rattle.carried_record.specs.CarriedFormat.{afterKind}
 use borrow.Author.Tests.{eq-eqb, ne-eqb}
-use borrow.Author.Needs.{needs}
 use Rattle.carried_record.proofs.most_after.Statement.{statement}
 use Rattle.carried_record.proofs.most_after.Tie as tie
 

@@ -1,7 +1,4 @@
-use Rattle.expander_rules.specs.Call.{answered}
-use Prim.Native.Nat.{_≤_}
-use mathlib.Core.Path.{_≡_}
-use lib.ListN.{length-take, length}
+use lib.ListN.{length-take}
 use native.Mathlib.Omega.{arith}
 use borrow.Author.Needs.{needs}
 use Rattle.expand.proofs.print_answer.Statement.{statement}

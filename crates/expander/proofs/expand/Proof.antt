@@ -1,6 +1,6 @@
 use Rattle.expander_rules.proofs.Calls.{not-nine, long-stream, malformed}
 use Rattle.bits.proofs.Choices.{neither}
-use mathlib.Core.Path.{_≡_, sym, _∙_}
+use mathlib.Core.Path.{sym, _∙_}
 use borrow.Author.Needs.{needs}
 use Rattle.expander.proofs.expand.Statement.{statement}
 use Rattle.expander.proofs.expand.Tie as tie
@@ -18,7 +18,7 @@ expand-replayed-requires : tie.Need-expand-replayed-requires
 expand-replayed-requires c κs = (c .before .before .before .before .before .before .before .before .before .before .before .if1 .left, c .before .before .before .before .before .before .before .before .before .before .if2 .left, c .before .before .before .before .before .before .before .least .ensures, sym (c .before .before .before .before .before .before .before .before .before .is-bad-load .ensures) ∙ c .before .before .before .before .before .before .before .before .if3 .left)
 
 expand-plain-requires : tie.Need-expand-plain-requires
-expand-plain-requires c κs = let none = neither (c .before .before .before .before .before .before .is-loading .result) (c .before .before .before .either .result) (sym (c .before .before .either2 .ensures) ∙ c .before .if4 .left) in let n = neither (c .before .before .before .before .before .any-replay .result) (c .before .before .before .before .any-replay2 .result) (sym (c .before .before .before .either .ensures) ∙ none .1) in (c .before .before .before .before .before .before .before .before .before .before .before .if1 .left, c .before .before .before .before .before .before .before .before .before .before .if2 .left, c .before .before .before .before .before .before .before .least .ensures, sym (c .before .before .before .before .before .any-replay .ensures) ∙ n .0, sym (c .before .before .before .before .any-replay2 .ensures) ∙ n .1, sym (c .before .before .before .before .before .before .before .before .before .is-bad-load .ensures) ∙ c .before .before .before .before .before .before .before .before .if3 .left, sym (c .before .before .before .before .before .before .is-loading .ensures) ∙ none .0)
+expand-plain-requires c κs = let none = neither (c .before .before .before .before .either .result) (c .before .before .before .is-loading .result) (sym (c .before .before .either2 .ensures) ∙ c .before .if4 .left) in let n = neither (c .before .before .before .before .before .before .any-replay .result) (c .before .before .before .before .before .any-replay2 .result) (sym (c .before .before .before .before .either .ensures) ∙ none .0) in (c .before .before .before .before .before .before .before .before .before .before .before .if1 .left, c .before .before .before .before .before .before .before .before .before .before .if2 .left, c .before .before .before .before .before .before .before .least .ensures, sym (c .before .before .before .before .before .before .any-replay .ensures) ∙ n .0, sym (c .before .before .before .before .before .any-replay2 .ensures) ∙ n .1, sym (c .before .before .before .before .before .before .before .before .before .is-bad-load .ensures) ∙ c .before .before .before .before .before .before .before .before .if3 .left, sym (c .before .before .before .is-loading .ensures) ∙ none .1)
 
 pub expand-spec : {M : Type 1} → statement M
 expand-spec =

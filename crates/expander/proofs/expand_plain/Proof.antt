@@ -20,7 +20,7 @@ put-stream-requires : tie.Need-put-stream-requires
 put-stream-requires c κs = let a = c .before .before .before .before .before .before .before .before .args in (c .before .before .before .before .before .before .before .before .pre .0, omega (arith, c .before .before .before .before .before .before .before .before .pre .2, c .before .if2 .left, c .before .before .count-stream .ensures, stream-long (a .nine .now) (a .carried .«high_mask») (a .input .now)))
 
 returns-3 : tie.Need-returns-3
-returns-3 c = let a = c .before .before .before .before .before .before .before .before .before .before .before .before .args in let m = a .nine .now in let p = c .before .before .before .before .before .before .before .before .before .before .before .before .pre in let n : c .before .before .before .before .before .before .count-stream .result ≡ length (streamOf m (a .carried .«high_mask») (a .input .now) .words) = omega (arith, p .2, c .before .before .before .before .before .if2 .left, c .before .before .before .before .before .before .count-stream .ensures, stream-long m (a .carried .«high_mask») (a .input .now)) in rw (n, c .before .before .before .put-stream .ensures .0, c .before .before .before .put-stream .ensures .1 .list) (sym (plain-streams m (a .carried) (a .input .now) (a .out .now) (p .6) (stream-plain m (p .3) (a .carried .«high_mask») (a .input .now) (p .4)) ∙ mop-enough m (a .carried) (a .input .now) (a .out .now) (p .0) (p .1) (p .5) (sym (c .before .before .before .before .before .before .before .before .bad-rounds .ensures) ∙ c .before .before .before .before .before .before .before .if1 .left) (omega (arith, p .2, c .before .before .before .before .before .if2 .left, c .before .before .before .before .before .before .count-stream .ensures))))
+returns-3 c = let a = c .before .before .before .before .before .before .before .before .before .before .before .args in let m = a .nine .now in let p = c .before .before .before .before .before .before .before .before .before .before .before .pre in let n : c .before .before .before .before .before .count-stream .result ≡ length (streamOf m (a .carried .«high_mask») (a .input .now) .words) = omega (arith, p .2, c .before .before .before .before .if2 .left, c .before .before .before .before .before .count-stream .ensures, stream-long m (a .carried .«high_mask») (a .input .now)) in rw (n, c .before .before .put-stream .ensures .0, c .before .before .put-stream .ensures .1 .list) (sym (plain-streams m (a .carried) (a .input .now) (a .out .now) (p .6) (stream-plain m (p .3) (a .carried .«high_mask») (a .input .now) (p .4)) ∙ mop-enough m (a .carried) (a .input .now) (a .out .now) (p .0) (p .1) (p .5) (sym (c .before .before .before .before .before .before .before .bad-rounds .ensures) ∙ c .before .before .before .before .before .before .if1 .left) (omega (arith, p .2, c .before .before .before .before .if2 .left, c .before .before .before .before .before .count-stream .ensures))))
 
 pub expand-plain-spec : {M : Type 1} → statement M
 expand-plain-spec =

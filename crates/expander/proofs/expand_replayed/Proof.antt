@@ -1,7 +1,6 @@
 use Rattle.expander_rules.proofs.Calls.{needed-long, faulty, little-room, enough-room}
-use lib.ListN.{length}
 use native.Mathlib.Omega.{arith}
-use mathlib.Core.Path.{_≡_, refl, sym, _∙_}
+use mathlib.Core.Path.{refl, sym, _∙_}
 use borrow.Author.Needs.{needs}
 use Rattle.expander.proofs.expand_replayed.Statement.{statement}
 use Rattle.expander.proofs.expand_replayed.Tie as tie

@@ -1,11 +1,8 @@
 use Rattle.expander.proofs.MopParts.{part-alone, mop-alone, part-words-long, part-small, wrote-taken}
-use Rattle.expander.specs.Parts.{partWords, mopPart}
-use Rattle.expander_rules.specs.Stream.{mopWords, streamOf}
+use Rattle.expander.specs.Parts.{partWords}
 use lib.ListN.{length}
 use native.Mathlib.Omega.{arith}
-use Prim.Native.Nat.{ℕ}
-use mathlib.Core.List.{List, [], _∷_}
-use mathlib.Core.Path.{_≡_, sym, ap, _∙_}
+use mathlib.Core.Path.{ap, _∙_}
 use borrow.Author.Needs.{needs}
 use Rattle.expander.proofs.parts.put_part.Statement.{statement}
 use Rattle.expander.proofs.parts.put_part.Tie as tie

@@ -1,16 +1,12 @@
 use Rattle.expander.proofs.MopParts.{mop-alone}
 use Rattle.expander_rules.proofs.Plain.{mop-plain}
-use Rattle.expander_rules.specs.Stream.{mopWords, streamOf}
+use Rattle.expander_rules.specs.Stream.{mopWords}
 use Rattle.replay_buffer.proofs.Passing.{plain-fits, passes-plain}
 use Rattle.replay_buffer.specs.Replay.{anyReplay, buffer}
 use Rattle.bits.proofs.Choices.{and-left, and-right}
 use borrow.Author.Tests.{not-true}
-use lib.ListN.{length}
-use native.Mathlib.Omega.{arith}
-use Prim.Native.Nat.{ℕ}
-use mathlib.Core.List.{List, [], _∷_}
 use mathlib.Core.Bool.{true, not, _&&_}
-use mathlib.Core.Path.{_≡_, refl, sym, ap, _∙_}
+use mathlib.Core.Path.{_≡_, refl, sym, _∙_}
 use borrow.Author.Needs.{needs}
 use Rattle.expander.proofs.pass.pass_mop.Statement.{statement}
 use Rattle.expander.proofs.pass.pass_mop.Tie as tie

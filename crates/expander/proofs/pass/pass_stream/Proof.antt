@@ -10,7 +10,7 @@ use lib.ListN.{length, getD, drop}
 use native.Mathlib.Omega.{arith}
 use mathlib.Core.Bool.{not}
 use mathlib.Core.Path.{_≡_, refl, sym, ap, _∙_}
-use Prim.Native.Nat.{_+_, _-_, _≤_}
+use Prim.Native.Nat.{_-_, _≤_}
 use borrow.Author.Needs.{needs}
 use Rattle.expander.proofs.pass.pass_stream.Statement.{statement}
 use Rattle.expander.proofs.pass.pass_stream.Tie as tie

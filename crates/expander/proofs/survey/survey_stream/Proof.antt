@@ -2,7 +2,6 @@ use Rattle.expander_rules.proofs.Faults.{fault-many, fault-bad, fault-end, faul
 use Rattle.expander_rules.specs.Call.{isTemplate1, overRounds, faultOf}
 use Rattle.expander_rules.specs.Stream.{streamOf}
 use Rattle.replay_buffer.specs.Counts.{capped, countAll}
-use Rattle.answers.specs.Answers.{accepted, refused}
 use lib.ListN.{length, getD, drop}
 use native.Mathlib.Omega.{arith}
 use mathlib.Core.Bool.{true, false, not, _&&_}
