@@ -18,6 +18,7 @@ from expander import malformed
 from seeded import Draws
 
 MOST_ROOM = 65600
+SEED = 20000
 WHOLE, AT_EACH_PLACE = 0, 1  # how a stream comes; else in random pieces
 NEVER = 0
 ALL = 16
@@ -435,11 +436,16 @@ def distinct(cases):
     return found.values()
 
 
+def short_and_long(draws):
+    """Short streams in one call, with their rooms, and the cases of long ones."""
+    short = [*with_another(draws, mop_cases(draws)), *with_rooms(draws, replay_cases(draws))]
+    return short, [*long_mop_cases(draws), *long_replay_cases(draws)]
+
+
 def all_cases():
     """Cases with their rooms, and how their streams come."""
-    draws = Draws(20000)
-    short = [*with_another(draws, mop_cases(draws)), *with_rooms(draws, replay_cases(draws))]
-    long = [*long_mop_cases(draws), *long_replay_cases(draws)]
+    draws = Draws(SEED)
+    short, long = short_and_long(draws)
     yield from short
     yield from ((case, room, WHOLE) for case in long for room in (NEEDED_LIMIT - 1, NEEDED_LIMIT, MOST_ROOM))
     yield from in_pieces(draws, distinct(case for case, _, _ in short))
