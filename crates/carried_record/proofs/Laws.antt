@@ -1,13 +1,16 @@
 -- Record 38 is a right format.
-use Prim.Native.Nat.{ℕ, zero, suc, _≤_, _<_}
+use Prim.Native.Nat.{ℕ, zero, suc, _+_, _≤_, _<_}
 use mathlib.Core.Bool.{Bool, true, false, cond}
-use mathlib.Core.Path.{_≡_, refl, ap}
+use mathlib.Core.List.{List}
+use mathlib.Core.Path.{_≡_, refl, ap, _∙_}
 use native.Mathlib.Omega.{arith}
 use lib.Dec.{eqb, lit<}
-use lib.ListN.{length}
+use lib.ListN.{length, drop}
 use borrow.Author.Tests.{ne-eqb}
+use Rattle.bits.specs.Bytes.{le}
 use Rattle.bits.specs.Ranges.{allAtMost}
 use Rattle.format.specs.Format.{num, both, numbers}
+use Rattle.format.proofs.Fields.{inside}
 use Rattle.format.proofs.Lawful.{Lawful, num-lawful, dep-lawful, both-lawful, numbers-lawful, via-lawful, kind-lawful, kind-ok, numbers-ok, whole-accepts, whole-get, whole-put}
 use Rattle.replay_buffer.specs.declared.load.Load.{Load}
 use Rattle.replay_buffer.specs.declared.load.Load.the-variants.{NoLoad, Taking}
@@ -19,6 +22,13 @@ after-room : (k most limit : ℕ) → 0 < limit → most < limit → afterKind k
 unfolding afterKind
 after-room zero most limit pos h = pos
 after-room (suc k) most limit pos h = rw (ne-eqb (suc k) 0 (λ z. omega arith)) h
+
+-- a field after the kind byte, judged at its own place
+pub after-good : (w most at k : ℕ) (s : List ℕ) {r h x : ℕ} → r ≡ num w 0 h .good (drop (at + k) s) → h ≡ afterKind x most → x ≡ le 1 (drop at s) →
+    r ≡ num w 0 (afterKind (le 1 (drop at s)) most) .good (drop k (drop at s))
+after-good w most at k s e f g =
+    inside (num w 0 (afterKind (le 1 (drop at s)) most) .good) k at s
+    (e ∙ ap (λ (h : ℕ). num w 0 h .good (drop (at + k) s)) (f ∙ ap (λ (x : ℕ). afterKind x most) g))
 
 numbers-right : Lawful loadNumbers
 numbers-right =

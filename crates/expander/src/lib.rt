@@ -70,11 +70,11 @@ fn write(
 {
     let mut slots = carried.slots;
     let load = carried.load;
-    let left = pass::pass_stream(nine, carried.high_mask, load, input, &mut slots, room, out);
-    let onward = left.load;
+    let handed = pass::pass_stream(nine, carried.high_mask, load, input, &mut slots, room, out);
+    let onward = handed.load;
     let answer = Answer::Done(needed);
     let after = Carried {
-        high_mask: left.high,
+        high_mask: handed.high,
         slots,
         load: onward,
     };

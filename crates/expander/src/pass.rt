@@ -93,8 +93,8 @@ fn pass_emission(
     }
 }
 
-// The high mask and the load that a stream leaves.
-pub(crate) struct Left {
+// The high mask and the load that a stream hands on.
+pub(crate) struct HandedOn {
     pub(crate) high: u16,
     pub(crate) load: Load,
 }
@@ -108,7 +108,7 @@ pub(crate) fn pass_stream(
     slots: &mut [u32],
     room: &mut [u32],
     out: &mut [u32],
-) -> Left
+) -> HandedOn
     requires { ⌜ (length (now nine) ≡ 9) × (faultOf (now nine) high load (now input) ≡ accepted tt) × (length (now slots) ≡ 32) × (length (now room) ≡ 640) × (length (playWords (buffer (now slots) load) (streamOf (now nine) high (now input) .words) .words) ≤ length (now out)) ⌝ }
     ensures mask { λ r. ⌜ r .high ≡ streamOf (now (nine .entry)) high (now (input .entry)) .high ⌝ }
     ensures taken { λ r. ⌜ buffer (now (slots .exit)) (r .load) ≡ playWords (buffer (now (slots .entry)) load) (streamOf (now (nine .entry)) high (now (input .entry)) .words) .buffer ⌝ }
@@ -126,7 +126,7 @@ pub(crate) fn pass_stream(
         i += 1;
     }
     let after = p.load;
-    Left {
+    HandedOn {
         high: mask,
         load: after,
     }

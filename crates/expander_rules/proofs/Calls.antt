@@ -20,6 +20,7 @@ use Rattle.expander_rules.specs.Promises.{mopCallOf}
 use Rattle.expander_rules.specs.State.{carry, badLoad}
 use Rattle.expander_rules.specs.Stream.{streamOf}
 use Rattle.expander_rules.specs.declared.Carried.{Carried}
+use Rattle.expander_rules.proofs.Faults.{never}
 use Rattle.expander_rules.proofs.Folds.{stream-long}
 
 -- the lesser of the room and 65,536 decides
@@ -102,10 +103,6 @@ pub record Accepts (m : List ℕ) (c : Carried) (l out : List ℕ) (n : ℕ) : T
   pub room : shortOutput out n ≡ false
   pub count : n ≡ length (expansionOf m c l .words)
   pub done : expandOf m c l out ≡ doneWith (expansionOf m c l) out
-
--- a call is refused or accepted
-pub never : {A : Type 0} {x : A} {number : ℕ} {values : List ℕ} → refused number values ≡ accepted x → ⊥
-never h = let z : _≡_ {A = ℕ} 0 1 = cc in omega arith
 
 module _ (m : List ℕ) (c : Carried) (l out : List ℕ) where
   abbrev given : Expansion

@@ -22,6 +22,16 @@ use Rattle.expander_rules.proofs.Folds.{stream-next, stream-end}
 allowed : {A : Type 0} (t : Bool) → t ≡ false → (number : ℕ) (rest : Told A) → provided (not t) number rest ≡ rest
 allowed t h number rest = rw h
 
+-- an answer is refused or accepted
+pub never : {A : Type 0} {x : A} {number : ℕ} {values : List ℕ} → refused number values ≡ accepted x → ⊥
+never h = let z : _≡_ {A = ℕ} 0 1 = cc in omega arith
+
+-- what is accepted has passed both tests
+pub both-passed : (many bad : Bool) {rest : Told (Unit {0})} → provided (not many) 7 (provided (not bad) 13 rest) ≡ accepted tt → (many ≡ false) × ((bad ≡ false) × (rest ≡ accepted tt))
+both-passed true bad h = absurd (never h)
+both-passed false true h = absurd (never h)
+both-passed false false h = (refl, (refl, h))
+
 -- a turn of a loop over the stream
 module _ (m : List ℕ) (high : ℕ) (load : Load) (l : List ℕ) (i : ℕ) where
   abbrev word : ℕ

@@ -7,7 +7,7 @@ use native.Mathlib.Omega.{arith}
 use lib.Dec.{eqb, ltb}
 use borrow.Author.Tests.{le-ltb, ltb-false}
 use Rattle.bits.proofs.Choices.{neither}
-use Rattle.answers.specs.Answers.{Told, accepted, provided}
+use Rattle.answers.specs.Answers.{accepted}
 use Rattle.replay_buffer.specs.Replay.{slotCount, isReplay, isLoad, startOf, lengthOf, oneTaken, loadBy, loadAfter, loadsAfter, obeyedBadly, anyObeyedBadly, buffer}
 use Rattle.replay_buffer.specs.declared.load.Load.{Load}
 use Rattle.replay_buffer.specs.declared.load.Load.the-variants.{NoLoad, Taking}
@@ -17,7 +17,8 @@ use Rattle.expander_rules.specs.Promises.{CarriesFormed}
 use Rattle.expander_rules.specs.State.{badLoad}
 use Rattle.expander_rules.specs.Stream.{wordOf, streamOf}
 use Rattle.expander_rules.specs.declared.Carried.{Carried}
-use Rattle.expander_rules.proofs.Calls.{accepts, never, close-bad, close-done}
+use Rattle.expander_rules.proofs.Faults.{never, both-passed}
+use Rattle.expander_rules.proofs.Calls.{accepts, close-bad, close-done}
 
 -- a load that takes a word, and one that a REPLAY begins
 taken-formed : (next left : ℕ) (shown : Bool) → badLoad (Taking next left shown) ≡ false → badLoad (oneTaken (Taking next left shown)) ≡ false
@@ -63,14 +64,8 @@ unfolding faultOf streamOf anyObeyedBadly
 sound-words m high load [] sound = refl
 sound-words m high load (word ∷ l) sound =
     let w = wordOf m high word in
-    rw (bad-append load (w .words) (streamOf m (w .high) l .words))
-    (go (overRounds m && isTemplate1 word) (anyObeyedBadly load (w .words)) (sound-words m (w .high) (loadsAfter load (w .words)) l) sound)
-  where
-    go : (many bad : Bool) {here : Told (Unit {0})} {later : Bool} → (here ≡ accepted tt → later ≡ false) →
-        provided (not many) 7 (provided (not bad) 13 here) ≡ accepted tt → (bad || later) ≡ false
-    go true bad f h = cc
-    go false true f h = cc
-    go false false f h = f h
+    let p = both-passed (overRounds m && isTemplate1 word) (anyObeyedBadly load (w .words)) sound in
+    rw (bad-append load (w .words) (streamOf m (w .high) l .words), p .1 .0) (sound-words m (w .high) (loadsAfter load (w .words)) l (p .1 .1))
 
 piece-formed : (m : List ℕ) (c : Carried) (l out : List ℕ) (n : ℕ) → expandOf m c l out .answer ≡ accepted n → badLoad (expandOf m c l out .carried .load) ≡ false
 unfolding expansionOf

@@ -1,6 +1,6 @@
 -- A stream in pieces is the stream.
 use Prim.Native.Nat.{ℕ, _+_}
-use mathlib.Core.Bool.{Bool, true, false, not, _&&_}
+use mathlib.Core.Bool.{false, not, _&&_}
 use mathlib.Core.List.{List, [], _∷_, _++_}
 use mathlib.Core.Path.{_≡_, refl, sym, ap, _∙_}
 use native.Mathlib.Omega.{arith}
@@ -10,7 +10,7 @@ use lib.Seq.{take-at}
 use borrow.Author.Tests.{eqb-true, not-false}
 use Rattle.bits.specs.Overwrite.{over}
 use Rattle.bits.proofs.Choices.{neither}
-use Rattle.answers.specs.Answers.{Told, accepted, refused, provided}
+use Rattle.answers.specs.Answers.{Told, accepted, refused}
 use Rattle.replay_buffer.specs.Replay.{buffer, playWords, anyObeyedBadly, loadsAfter}
 use Rattle.replay_buffer.specs.declared.load.Load.{Load}
 use Rattle.replay_buffer.proofs.Folds.{play-append, loads-append, play-load}
@@ -20,8 +20,9 @@ use Rattle.expander_rules.specs.Promises.{CutAnywhere, JoinedPieces}
 use Rattle.expander_rules.specs.State.{badLoad}
 use Rattle.expander_rules.specs.Stream.{wordOf, streamOf}
 use Rattle.expander_rules.specs.declared.Carried.{Carried}
+use Rattle.expander_rules.proofs.Faults.{never, both-passed}
 use Rattle.expander_rules.proofs.Folds.{stream-cut}
-use Rattle.expander_rules.proofs.Calls.{accepts, enough-room, never}
+use Rattle.expander_rules.proofs.Calls.{accepts, enough-room}
 
 pub cut : CutAnywhere
 unfolding expansionOf
@@ -36,14 +37,8 @@ unfolding faultOf streamOf loadsAfter
 fault-append m high load [] y sound = refl
 fault-append m high load (word ∷ x) y sound =
     let w = wordOf m high word in
-    rw (loads-append load (w .words) (streamOf m (w .high) x .words))
-    (go (overRounds m && isTemplate1 word) (anyObeyedBadly load (w .words)) (fault-append m (w .high) (loadsAfter load (w .words)) x y) sound)
-  where
-    go : (many bad : Bool) {here both later : Told (Unit {0})} → (here ≡ accepted tt → both ≡ later) →
-        provided (not many) 7 (provided (not bad) 13 here) ≡ accepted tt → provided (not many) 7 (provided (not bad) 13 both) ≡ later
-    go true bad f h = cc
-    go false true f h = cc
-    go false false f h = f h
+    let p = both-passed (overRounds m && isTemplate1 word) (anyObeyedBadly load (w .words)) sound in
+    rw (loads-append load (w .words) (streamOf m (w .high) x .words), p .0, p .1 .0) (fault-append m (w .high) (loadsAfter load (w .words)) x y (p .1 .1))
 
 -- what an accepted call wrote, taken from its output
 written-back : (out words : List ℕ) (n : ℕ) → n ≡ length words → take n (over out 0 words) ≡ words

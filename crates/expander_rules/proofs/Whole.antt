@@ -18,8 +18,8 @@ use Rattle.expander_rules.specs.Stream.{streamOf}
 use Rattle.expander_rules.specs.declared.Answer.{Answer}
 use Rattle.expander_rules.specs.declared.Answer.the-variants.{Done, Refused}
 use Rattle.expander_rules.specs.declared.Carried.{Carried}
-use Rattle.expander_rules.proofs.Faults.{plain-fault}
-use Rattle.expander_rules.proofs.Calls.{accepts, refuses, never, close-bad, close-done}
+use Rattle.expander_rules.proofs.Faults.{never, plain-fault}
+use Rattle.expander_rules.proofs.Calls.{accepts, refuses, close-bad, close-done}
 
 pub stages : Stages
 unfolding expansionOf

@@ -22,7 +22,7 @@ writtenThen (refused number values) out later = refused number values
 writtenThen (accepted n) out (refused number values) = refused number values
 writtenThen (accepted n) out (accepted e) = accepted (expansion (take n out ++ e .words) (e .carried))
 
--- "Where every piece is accepted": the pieces' outputs joined, and what the last one carries; else the number of one that is refused
+-- "Where every piece is accepted": the pieces' outputs joined, and what the last one carries; else the number of the first that is refused
 unfoldable pub allTaken : List ℕ → Carried → List Piece → Told Expansion
 allTaken m c [] = accepted (expansion [] c)
 allTaken m c (p ∷ ps) =

@@ -10,7 +10,14 @@ write-words-requires : tie.Need-write-words-requires
 write-words-requires c κs = let h : length (c .before .before .before .before .before .before .before .before .before .before .before .before .args .carried .slots) ≡ 32 = search needs in (omega (arith, h, c .before .before .before .before .before .before .before .before .before .before .before .before .pre, c .before .before .before .before .before .before .before .before .write-head .kept .0, c .before .before .before .before .write-half .kept .0), search needs, search needs)
 
 returns : tie.Need-returns
-returns c = let h : length (c .before .before .before .before .before .before .before .before .before .before .before .before .before .before .before .before .before .before .before .args .carried .slots) ≡ 32 = search needs in wrote-to 146 (omega arith) (wrote-then (omega arith) (c .before .before .before .before .before .before .before .before .before .before .before .before .before .before .before .write-head .ensures) (wrote-then (omega (arith, c .before .before .before .before .before .before .before .before .before .before .before .before .before .before .before .before .before .before .before .pre, c .before .before .before .before .before .before .before .before .before .before .before .before .before .before .before .write-head .kept .0)) (c .before .before .before .before .before .before .before .before .before .before .before .write-half .ensures) (wrote-then (omega (arith, c .before .before .before .before .before .before .before .before .before .before .before .before .before .before .before .before .before .before .before .pre, c .before .before .before .before .before .before .before .before .before .before .before .before .before .before .before .write-head .kept .0, c .before .before .before .before .before .before .before .before .before .before .before .write-half .kept .0)) (c .before .before .before .before .before .before .write-words .ensures) (wrote-from 136 (omega (arith, h)) (c .before .before .write-load .ensures)))))
+returns c =
+    let h : length (c .before .before .before .before .before .before .before .before .before .before .before .before .before .before .before .before .before .before .before .args .carried .slots) ≡ 32 = search needs in
+    let b2 = c .before .before in
+    let b6 = b2 .before .before .before .before in
+    let b11 = b6 .before .before .before .before .before in
+    let b15 = b11 .before .before .before .before in
+    let b19 = b15 .before .before .before .before in
+    wrote-to 146 (omega arith) (wrote-then (omega arith) (b15 .write-head .ensures) (wrote-then (omega (arith, b19 .pre, b15 .write-head .kept .0)) (b11 .write-half .ensures) (wrote-then (omega (arith, b19 .pre, b15 .write-head .kept .0, b11 .write-half .kept .0)) (b6 .write-words .ensures) (wrote-from 136 (omega (arith, h)) (b2 .write-load .ensures)))))
 
 pub write-record-spec : {M : Type 1} → statement M
 write-record-spec =

@@ -6,7 +6,11 @@ close-input-requires : tie.Need-close-input-requires
 close-input-requires c κs = rw (c .before .read2 .given .1) at (c .before .before .before .read-input .ensures)
 
 expand-sound-requires : tie.Need-expand-sound-requires
-expand-sound-requires c κs = (rw (c .before .before .before .before .before .read3 .given .1) at (c .before .before .before .before .before .before .before .read-input .ensures), c .before .before .before .before .before .before .before .before .before .before .before .before .before .pre .0, c .before .before .before .before .before .before .before .before .before .before .before .before .before .pre .1, c .before .before .before .before .before .before .before .before .before .before .before .before .before .pre .2, c .before .before .before .before .before .before .before .before .before .before .before .before .before .pre .3)
+expand-sound-requires c κs =
+    let b5 = c .before .before .before .before .before in
+    let b7 = b5 .before .before in
+    let b13 = b7 .before .before .before .before .before .before in
+    (rw (b5 .read3 .given .1) at (b7 .read-input .ensures), b13 .pre .0, b13 .pre .1, b13 .pre .2, b13 .pre .3)
 
 pub answer-spec : {M : Type 1} → statement M
 answer-spec =

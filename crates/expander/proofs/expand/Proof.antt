@@ -18,7 +18,20 @@ expand-replayed-requires : tie.Need-expand-replayed-requires
 expand-replayed-requires c κs = (c .before .before .before .before .before .before .before .before .before .before .before .if1 .left, c .before .before .before .before .before .before .before .before .before .before .if2 .left, c .before .before .before .before .before .before .before .least .ensures, sym (c .before .before .before .before .before .before .before .before .before .is-bad-load .ensures) ∙ c .before .before .before .before .before .before .before .before .if3 .left)
 
 expand-plain-requires : tie.Need-expand-plain-requires
-expand-plain-requires c κs = let none = neither (c .before .before .before .before .either .result) (c .before .before .before .is-loading .result) (sym (c .before .before .either2 .ensures) ∙ c .before .if4 .left) in let n = neither (c .before .before .before .before .before .before .any-replay .result) (c .before .before .before .before .before .any-replay2 .result) (sym (c .before .before .before .before .either .ensures) ∙ none .0) in (c .before .before .before .before .before .before .before .before .before .before .before .if1 .left, c .before .before .before .before .before .before .before .before .before .before .if2 .left, c .before .before .before .before .before .before .before .least .ensures, sym (c .before .before .before .before .before .before .any-replay .ensures) ∙ n .0, sym (c .before .before .before .before .before .any-replay2 .ensures) ∙ n .1, sym (c .before .before .before .before .before .before .before .before .before .is-bad-load .ensures) ∙ c .before .before .before .before .before .before .before .before .if3 .left, sym (c .before .before .before .is-loading .ensures) ∙ none .1)
+expand-plain-requires c κs =
+    let b2 = c .before .before in
+    let b3 = b2 .before in
+    let b4 = b3 .before in
+    let b5 = b4 .before in
+    let b6 = b5 .before in
+    let b7 = b6 .before in
+    let b8 = b7 .before in
+    let b9 = b8 .before in
+    let b10 = b9 .before in
+    let b11 = b10 .before in
+    let none = neither (b4 .either .result) (b3 .is-loading .result) (sym (b2 .either2 .ensures) ∙ c .before .if4 .left) in
+    let n = neither (b6 .any-replay .result) (b5 .any-replay2 .result) (sym (b4 .either .ensures) ∙ none .0) in
+    (b11 .if1 .left, b10 .if2 .left, b7 .least .ensures, sym (b6 .any-replay .ensures) ∙ n .0, sym (b5 .any-replay2 .ensures) ∙ n .1, sym (b9 .is-bad-load .ensures) ∙ b8 .if3 .left, sym (b3 .is-loading .ensures) ∙ none .1)
 
 pub expand-spec : {M : Type 1} → statement M
 expand-spec =

@@ -16,19 +16,42 @@ use Rattle.expander.proofs.pass.pass_stream.Statement.{statement}
 use Rattle.expander.proofs.pass.pass_stream.Tie as tie
 
 abbrev Inv-loop : tie.InvT-loop
-Inv-loop nine high input slots₀ room₀ out₀ plain mask₀ p₀ i₀ slots room out mask p i = (i ≤ length input) × (length slots ≡ 32) × (length room ≡ 640) × (faultOf nine mask (p .load) (drop i input) ≡ accepted tt) × (streamOf nine mask (drop i input) .high ≡ streamOf nine high input .high) × Rest (buffer slots₀ (p₀ .load)) (streamOf nine high input .words) out₀ 0 slots out p (streamOf nine mask (drop i input) .words)
+Inv-loop nine high input slots₀ room₀ out₀ plain mask₀ p₀ i₀ slots room out mask p i =
+    (i ≤ length input) × (length slots ≡ 32) × (length room ≡ 640) × (faultOf nine mask (p .load) (drop i input) ≡ accepted tt)
+    × (streamOf nine mask (drop i input) .high ≡ streamOf nine high input .high) × Rest (buffer slots₀ (p₀ .load)) (streamOf nine high input .words) out₀ 0 slots out p (streamOf nine mask (drop i input) .words)
 
 abbrev μ-loop : tie.MeasureT-loop
 μ-loop nine high input slots₀ room₀ out₀ plain mask₀ p₀ i₀ slots room out mask p i = length input - i
 
 loop-holds : tie.Need-loop-holds Inv-loop μ-loop
-loop-holds c = let a = c .before .before .before .before .before .before .args in (omega arith, c .before .before .before .before .before .before .pre .2, c .before .before .before .before .before .before .pre .3, c .before .before .before .before .before .before .pre .1, refl, rest-start (a .slots .now) (a .load) (streamOf (a .nine .now) (a .high) (a .input .now) .words) (a .out .now) (record { at = 0; load = a .load }) refl (omega (arith, c .before .before .before .before .before .before .pre .4)))
+loop-holds c =
+    let b6 = c .before .before .before .before .before .before in
+    let a = b6 .args in
+    (omega arith, b6 .pre .2, b6 .pre .3, b6 .pre .1, refl, rest-start (a .slots .now) (a .load) (streamOf (a .nine .now) (a .high) (a .input .now) .words) (a .out .now) (record { at = 0; load = a .load }) refl (omega (arith, b6 .pre .4)))
 
 pass-emission-requires : tie.Need-pass-emission-requires Inv-loop μ-loop
-pass-emission-requires c κs = let a = c .before .before .before .before .before .before .before .before .before .before .before .before .args in let m = a .nine .now in let l = c .before .before .before .before .before .loop in let h = c .before .before .before .before .loop-test .taken in (c .before .before .before .before .before .before .before .before .before .before .before .before .pre .0, ap not (c .before .before .before .before .before .before .any-replay .ensures), sound-few m (l .mask) (l .p .load) (a .input .now) (l .i) h (l .inv .3), l .inv .1, l .inv .2, rest-room (l .inv .5) (wordOf m (l .mask) (getD (a .input .now) (l .i) 0) .words) _ (ap (λ (x : Emission). x .words) (stream-next m (l .mask) (a .input .now) (l .i) h)))
+pass-emission-requires c κs =
+    let b4 = c .before .before .before .before in
+    let b5 = b4 .before in
+    let b6 = b5 .before in
+    let b12 = b6 .before .before .before .before .before .before in
+    let a = b12 .args in
+    let m = a .nine .now in
+    let l = b5 .loop in
+    let h = b4 .loop-test .taken in
+    (b12 .pre .0, ap not (b6 .any-replay .ensures), sound-few m (l .mask) (l .p .load) (a .input .now) (l .i) h (l .inv .3), l .inv .1, l .inv .2, rest-room (l .inv .5) (wordOf m (l .mask) (getD (a .input .now) (l .i) 0) .words) _ (ap (λ (x : Emission). x .words) (stream-next m (l .mask) (a .input .now) (l .i) h)))
 
 loop-again : tie.Need-loop-again Inv-loop μ-loop
-loop-again c = let a = c .before .before .before .before .before .before .before .before .before .before .before .before .before .before .before .before .before .before .before .before .args in let m = a .nine .now in let l = c .before .before .before .before .before .before .before .before .before .before .before .before .before .loop in let w = a .input .now in let h = c .before .before .before .before .before .before .before .before .before .before .before .before .loop-test .taken in let q = c .before .before .before .before .before .before .before .pass-emission .ensures in let few = sound-few m (l .mask) (l .p .load) w (l .i) h (l .inv .3) in let e = rw (← c .mask-after .ensures m) at (stream-next m (l .mask) w (l .i) h) in (omega arith, passes-kept q ∙ l .inv .1, search needs, fault-on m (l .mask) (l .p .load) w (l .i) h few _ (c .mask-after .ensures m) _ (ap (λ (b : Buffer). b .load) (q .after) ∙ play-load (buffer (l .slots) (l .p .load)) (wordOf m (l .mask) (getD w (l .i) 0) .words)) (sound-fine m (l .mask) (l .p .load) w (l .i) h (l .inv .3)) ∙ l .inv .3, ap (λ (x : Emission). x .high) (sym e) ∙ l .inv .4, rest-next (l .inv .5) (wordOf m (l .mask) (getD w (l .i) 0) .words) _ (ap (λ (x : Emission). x .words) e) q)
+loop-again c =
+    let a = c .before .before .before .before .before .before .before .before .before .before .before .before .before .before .before .before .before .before .before .before .args in
+    let m = a .nine .now in
+    let l = c .before .before .before .before .before .before .before .before .before .before .before .before .before .loop in
+    let w = a .input .now in
+    let h = c .before .before .before .before .before .before .before .before .before .before .before .before .loop-test .taken in
+    let q = c .before .before .before .before .before .before .before .pass-emission .ensures in
+    let few = sound-few m (l .mask) (l .p .load) w (l .i) h (l .inv .3) in
+    let e = rw (← c .mask-after .ensures m) at (stream-next m (l .mask) w (l .i) h) in
+    (omega arith, passes-kept q ∙ l .inv .1, search needs, fault-on m (l .mask) (l .p .load) w (l .i) h few _ (c .mask-after .ensures m) _ (ap (λ (b : Buffer). b .load) (q .after) ∙ play-load (buffer (l .slots) (l .p .load)) (wordOf m (l .mask) (getD w (l .i) 0) .words)) (sound-fine m (l .mask) (l .p .load) w (l .i) h (l .inv .3)) ∙ l .inv .3, ap (λ (x : Emission). x .high) (sym e) ∙ l .inv .4, rest-next (l .inv .5) (wordOf m (l .mask) (getD w (l .i) 0) .words) _ (ap (λ (x : Emission). x .words) e) q)
 
 returns : tie.Need-returns Inv-loop μ-loop
 returns c = let a = c .before .before .before .before .before .before .before .before .args in let m = a .nine .now in let l = c .before .loop in let e = stream-end m (l .mask) (a .input .now) (l .i) (c .loop-test .left) in let q = rest-done (l .inv .5) (ap (λ (x : Emission). x .words) e) in (ap (λ (x : Emission). x .high) (sym e) ∙ l .inv .4, (q .after, q .wrote .list))
