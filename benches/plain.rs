@@ -1,5 +1,5 @@
 // Plain Rust of document 01's rules, written for speed, to compare the proved code with. Nothing here is proved.
-// It reads the same jobs as crates/speed and crates/expander_speed and prints the same lines; benches/run builds and times both.
+// It reads the same jobs as crates/test_speed and crates/test_expander_speed and prints the same lines; benches/run builds and times both.
 use std::hint::black_box;
 use std::io::{Read, Write};
 

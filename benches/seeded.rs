@@ -1,4 +1,4 @@
-// Machines from a seed, and checksums, as oracle/seeded.py and crates/seeded make them.
+// Machines from a seed, and checksums, as oracle/seeded.py and crates/test_machines make them.
 use crate::machine::{Machine, Semaphore, Source, Wait};
 
 struct Draws(u32);

@@ -2,7 +2,7 @@
 
     python3 oracle/check_long_pieces.py    after `rt check` or `rt ci`; takes some minutes
 
-The proved program, target/bin/expander_vectors, makes the two calls of each cut. What they must come to is read off one call of the
+The proved program, target/bin/test_expander, makes the two calls of each cut. What they must come to is read off one call of the
 reference program, which tells what is written and carried after each word. Only of streams that one call accepts.
 """
 
@@ -12,11 +12,11 @@ import sys
 import zlib
 from pathlib import Path
 
-from cases_expander import AT_EACH_PLACE, SEED, carried_line, checksum, closed_line, short_and_long, states
+from cases.cases_expander import AT_EACH_PLACE, SEED, carried_line, checksum, closed_line, short_and_long, states
 from expander import NEEDED_LIMIT, STREAM_LIMIT, Call, Carried, load_numbers
 from seeded import Draws
 
-PROGRAM = Path(__file__).resolve().parent.parent / 'target/bin/expander_vectors'
+PROGRAM = Path(__file__).resolve().parent.parent / 'target/bin/test_expander'
 
 
 def after_each_word(call, case):

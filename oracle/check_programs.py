@@ -12,8 +12,8 @@ import sys
 from pathlib import Path
 
 import assemble as asm
-import cases_expand
 import seeded
+from cases import cases_expand
 from image import image_of
 from program import EMULATE_WORDS, PROGRAMS
 from run import STREAM_LIMIT

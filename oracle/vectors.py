@@ -3,7 +3,7 @@
     python3 oracle/vectors.py            writes all files
     python3 oracle/vectors.py --check    makes them again and compares them with what is stored
 
-Each module `cases_*.py` beside this one has a function files() -> {path from the repository's top: bytes}.
+Each module `cases/cases_*.py` has a function files() -> {path from the repository's top: bytes}.
 """
 
 import importlib
@@ -14,9 +14,9 @@ HERE = Path(__file__).resolve().parent
 TOP = HERE.parent
 
 
-def case_modules(folder=HERE):
-    """The case modules in a folder on the import path, sorted by name."""
-    return [importlib.import_module(name) for name in sorted(path.stem for path in folder.glob('cases_*.py'))]
+def case_modules(folder=HERE / 'cases'):
+    """The case modules of a package whose folder is beside those of the import path, sorted by name."""
+    return [importlib.import_module(f'{folder.name}.{name}') for name in sorted(path.stem for path in folder.glob('cases_*.py'))]
 
 
 def gathered(modules):

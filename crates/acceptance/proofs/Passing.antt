@@ -1,29 +1,28 @@
 -- When a word passes, and what a call of `step` then is.
 use Prim.Native.Nat.{ℕ, _<_}
 use mathlib.Core.Path.{_≡_, refl, sym, ap, _∙_}
-use mathlib.Core.Bool.{Bool, true, not}
+use mathlib.Core.Bool.{Bool, true}
 use mathlib.Core.List.{List}
+use native.Mathlib.Omega.{arith}
+use borrow.Author.Tests.{le-leb}
 use Rattle.bits.proofs.Choices.{and-left, and-right}
 use Rattle.machine.specs.Formed.{sized, formed, wellFormed}
 use Rattle.machine.specs.Machine.{Machine}
-use Rattle.answers.specs.declared.Access.the-variants.{Granted}
-use Rattle.answers.specs.Answers.{accepted, refused, told}
+use Rattle.machine.specs.declared.access.Access.the-variants.{Granted}
+use Rattle.machine.specs.Answers.{accepted, refused, told}
 use Rattle.word_rules.specs.declared.instruction.ConfigWord.{ConfigWord}
 use Rattle.word_rules.specs.declared.instruction.ScalarWord.{ScalarWord}
 use Rattle.word_rules.specs.declared.instruction.Instruction.{Instruction}
 use Rattle.word_rules.specs.declared.instruction.Instruction.the-variants.{Scalar, Config}
-use Rattle.word_rules.specs.Decode.{decodeOf}
-use Rattle.offers.specs.Offer.{Gate, Open, waitFirst}
-use Rattle.gate.specs.Gate.{gateOf}
+use Rattle.word_rules.specs.Table.{decodeOf}
+use Rattle.word_rules.specs.Waits.{Gate, Open, waitFirst, gateOf}
 use Rattle.step_rules.specs.Step.{stepped, passOf, byGate, gatedOf, checkOf, stepOf}
-use Rattle.step_rules.proofs.Ways.{offered-as, check-fine, call-offered}
-use Rattle.acceptance.specs.Worked.{Ready}
+use Rattle.step_rules.proofs.Ways.{offered-as, call-offered}
+use Rattle.acceptance.specs.Worked.{Unstalled}
 
 fine : (m : Machine) (t : ℕ) → wellFormed m ≡ true → t < 3 → told Granted ≡ checkOf m t
-fine m t e h =
-    let s = and-left (sized m) (formed m) e in
-    let f = and-right (sized m) (formed m) e in
-    check-fine m t (sized m) (formed m) refl refl (ap (λ (b : Bool). not b) s) (ap (λ (b : Bool). not b) f) h
+unfolding checkOf
+fine m t e h = rw (and-left (sized m) (formed m) e, and-right (sized m) (formed m) e, le-leb t 2 (omega arith))
 
 gate-open : (m : Machine) (t : ℕ) (i : Instruction) → gateOf (m .control) t i ≡ Open → passOf m t i ≡ gatedOf m t i
 unfolding gatedOf
@@ -41,12 +40,12 @@ refusing m t w n vs e h d =
     let offered = offered-as m t w (refused n vs) d in
     sym (call-offered m t Granted (fine m t e h) w (stepped (refused n vs) m) refl offered)
 
-pub scalar-passes : (m : Machine) (t w : ℕ) (s : ScalarWord) → Ready 5 m t → decodeOf w ≡ accepted (Scalar s) → stepOf m t w ≡ passOf m t (Scalar s)
+pub scalar-passes : (m : Machine) (t w : ℕ) (s : ScalarWord) → Unstalled 5 m t → decodeOf w ≡ accepted (Scalar s) → stepOf m t w ≡ passOf m t (Scalar s)
 unfolding gateOf
 scalar-passes m t w s r d =
     passing m t w (Scalar s) (r .formed) (r .thread) d (ap (λ (b : Bool). waitFirst b Open) (r .unstalled))
 
-pub config-passes : (m : Machine) (t w : ℕ) (s : ConfigWord) → Ready 7 m t → decodeOf w ≡ accepted (Config s) → stepOf m t w ≡ passOf m t (Config s)
+pub config-passes : (m : Machine) (t w : ℕ) (s : ConfigWord) → Unstalled 7 m t → decodeOf w ≡ accepted (Config s) → stepOf m t w ≡ passOf m t (Config s)
 unfolding gateOf
 config-passes m t w s r d =
     passing m t w (Config s) (r .formed) (r .thread) d (ap (λ (b : Bool). waitFirst b Open) (r .unstalled))

@@ -8,13 +8,12 @@ ghost use Rattle.run_rules.specs.OfferedAgain.{OfferedAgain};
 ghost use Rattle.run_rules.specs.Ended.{Ended};
 ghost use Rattle.run_rules.specs.Kept.{RunKeeps};
 ghost use Rattle.run_rules.specs.StuckForGood.{StuckForGood};
-ghost use Rattle.dest_cover.specs.Cover.{ViewsCover};
+ghost use Rattle.dest.specs.Cover.{ViewsCover};
 ghost use Rattle.image.specs.Promises.{ImageFacts, RoundTrips};
-ghost use Rattle.gpr_access.specs.Promises.{GprPromises};
-ghost use Rattle.dest_access.specs.Promises.{DestPromises};
-ghost use Rattle.source_access.specs.Promises.{SourcePromises};
-ghost use Rattle.expander_rules.specs.Promises.{CutAnywhere, JoinedPieces, RefusedPieces, CarriesFormed, EmptyLoads, Stages, PlainStreams, SlotsHandedBack, FreshExpander};
-ghost use Rattle.replay_buffer.specs.Promises.{LoadsPlayBack};
+ghost use Rattle.bench_gprs.specs.Promises.{GprPromises};
+ghost use Rattle.bench_dest.specs.Promises.{DestPromises};
+ghost use Rattle.bench_sources.specs.Promises.{SourcePromises};
+ghost use Rattle.expander_rules.specs.Promises.{LoadsPlayBack, CutAnywhere, JoinedPieces, RefusedPieces, CarriesFormed, EmptyLoads, Stages, PlainStreams, SlotsHandedBack, FreshExpander};
 ghost use Rattle.acceptance.specs.Worked.{Worked};
 
 // Each clause is a theorem over the definitions that the contracts of the entries cite.

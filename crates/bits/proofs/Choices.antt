@@ -1,8 +1,12 @@
 -- Laws of tests and choices.
 use Prim.Native.Nat.{ℕ}
-use mathlib.Core.Path.{_≡_, refl}
+use mathlib.Core.Path.{_≡_, refl, sym}
 use mathlib.Core.Bool.{Bool, true, false, cond, _&&_, _||_}
 use native.Mathlib.Omega.{arith}
+
+-- a test does not come out both ways
+pub never : {A : Type 0} → true ≡ false → A
+never h = let z : _≡_ {A = ℕ} 0 1 = cc in absurd (omega arith)
 
 -- where both hold, each does
 pub and-left : (a b : Bool) → (a && b) ≡ true → a ≡ true
@@ -11,7 +15,7 @@ and-left false b h = h
 
 pub and-right : (a b : Bool) → (a && b) ≡ true → b ≡ true
 and-right true b h = h
-and-right false b h = let z : _≡_ {A = ℕ} 0 1 = cc in absurd (omega arith)
+and-right false b h = never (sym h)
 
 pub and-intro : (a b : Bool) → a ≡ true → b ≡ true → (a && b) ≡ true
 and-intro a b p q = rw (p, q)
@@ -26,7 +30,7 @@ and-true false = refl
 
 -- where not one of two holds, neither does
 pub neither : (a b : Bool) → (a || b) ≡ false → (a ≡ false) × (b ≡ false)
-neither true b h = let z : _≡_ {A = ℕ} 0 1 = cc in absurd (omega arith)
+neither true b h = never h
 neither false b h = (refl, h)
 
 -- what holds of both choices holds of the choice

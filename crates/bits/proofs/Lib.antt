@@ -2,3 +2,5 @@ pub mod Choices
 pub mod Ranges
 pub mod Bytes
 pub mod Overwrite
+pub mod Copies
+pub mod Values

@@ -1,6 +1,6 @@
 -- Laws of a list written over from a place on.
 use Prim.Native.Nat.{ℕ, suc, _+_, _-_, _≤_, _<_}
-use mathlib.Core.Path.{_≡_, sym, _∙_}
+use mathlib.Core.Path.{_≡_, sym, subst, _∙_}
 use mathlib.Core.List.{List, [], _∷_, _++_, append-assoc, append-nil}
 use native.Mathlib.Nat.{add-assoc, add-zero}
 use native.Mathlib.Numerals.{add-one}
@@ -69,3 +69,7 @@ wrote-then {A} {l} {m} {n} {k} {j} {i} {a} {b} p q h =
 pub wrote-within : {A : Type 0} {l m : List A} {k n : ℕ} {vs : List A} → Wrote l k vs m n → k ≤ length l → n ≤ length m
 unfolding over
 wrote-within w h = rw (w .placed, w .list) (simp (length-append, length-take, length-drop) (omega arith))
+
+-- the same bytes under another name
+pub wrote-as : {A : Type 0} {l m : List A} {k n : ℕ} {vs ws : List A} → vs ≡ ws → Wrote l k vs m n → Wrote l k ws m n
+wrote-as {A} {l} {m} {k} {n} e w = subst (λ (x : List A). Wrote l k x m n) e w

@@ -1,4 +1,6 @@
 // Tests and numbers that every crate above uses; the laws of bits, bytes and lists are in proofs/.
+pub mod copy;
+
 ghost use mathlib.Core.Path.{_≡_};
 ghost use mathlib.Core.Bool.{_&&_, _||_};
 ghost use Rattle.bits.specs.Ranges.{allAtMost};

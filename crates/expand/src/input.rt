@@ -2,14 +2,37 @@
 // or where the first bad one starts.
 ghost use Prim.Native.Nat.{_+_, _*_, _≤_};
 ghost use lib.ListN.{length};
-ghost use Rattle.expand.specs.Sizes.{Read};
-use carried_record::is_sound;
-use records::counts::WordsRecord;
-use records::counts::words_record;
-use records::head::has_body;
+ghost use Rattle.expand.specs.Sizes.{ninesMost, wordsMost, wordsAt, Read};
+use program_carried::CARRIED_KIND;
+use program_carried::CARRIED_LENGTH;
+use program_carried::RECORD_BYTES;
+use program_carried::is_sound;
+use program_records::counts::WordsRecord;
+use program_records::counts::words_record;
+use program_records::head::has_body;
+
+// The most words of records 37 and 39: one more than the longest stream, so that a call refuses it.
+pub(crate) const NINES_MOST: usize = 16;
+
+pub(crate) const WORDS_MOST: usize = 65537;
+
+// Where records 38, 39 or 41, and 40 start, and the input ends, but for 4 bytes a word of records 37 and 39; each record has a head of
+// 6, and record 40 a body of 4.
+pub(crate) const CARRIED_AT: usize = 6;
+
+pub(crate) const WORDS_AT: usize = CARRIED_AT + RECORD_BYTES;
+
+pub(crate) const ROOM_AT: usize = WORDS_AT + 6;
+
+const END_AT: usize = ROOM_AT + 6 + 4;
 
 // The bytes of the longest sound input, and one more, by which a longer one is known.
-pub(crate) const INPUT_BYTES: usize = 262381;
+pub(crate) const INPUT_BYTES: usize = END_AT + 4 * NINES_MOST + 4 * WORDS_MOST + 1;
+
+// The longest bodies of records 37 and 39.
+const NINES_BYTES: u32 = 4 * NINES_MOST as u32;
+
+const WORDS_BYTES: u32 = 4 * WORDS_MOST as u32;
 
 // How many words records 37 and 39 have.
 pub(crate) struct Sizes {
@@ -26,10 +49,10 @@ pub(crate) enum InputRead {
 }
 
 fn from_room(s: &[u8], nine: usize, words: usize) -> InputRead
-    requires { ⌜ (nine ≤ 16) × (words ≤ 65537) ⌝ }
+    requires { ⌜ (nine ≤ ninesMost) × (words ≤ wordsMost) ⌝ }
     ensures { λ r. ⌜ Read (now (s .entry)) r ⌝ }
 {
-    let at = 158 + 4 * nine + 4 * words;
+    let at = ROOM_AT + 4 * nine + 4 * words;
     let there = has_body(s, at, 40, 4);
     if !there {
         return InputRead::BadAt(at);
@@ -41,11 +64,11 @@ fn from_room(s: &[u8], nine: usize, words: usize) -> InputRead
 }
 
 fn from_words(s: &[u8], nine: usize) -> InputRead
-    requires { ⌜ nine ≤ 16 ⌝ }
+    requires { ⌜ nine ≤ ninesMost ⌝ }
     ensures { λ r. ⌜ Read (now (s .entry)) r ⌝ }
 {
-    let at = 152 + 4 * nine;
-    let w = words_record(s, at, 39, 262148);
+    let at = WORDS_AT + 4 * nine;
+    let w = words_record(s, at, 39, WORDS_BYTES);
     match w {
         WordsRecord::NoWords => InputRead::BadAt(at),
         WordsRecord::Words(words) => from_room(s, nine, words),
@@ -53,10 +76,10 @@ fn from_words(s: &[u8], nine: usize) -> InputRead
 }
 
 fn from_close(s: &[u8], nine: usize) -> InputRead
-    requires { ⌜ (nine ≤ 16) × (152 + 4 * nine ≤ length (now s)) ⌝ }
+    requires { ⌜ (nine ≤ ninesMost) × (wordsAt + 4 * nine ≤ length (now s)) ⌝ }
     ensures { λ r. ⌜ Read (now (s .entry)) r ⌝ }
 {
-    let at = 152 + 4 * nine;
+    let at = WORDS_AT + 4 * nine;
     let closes = has_body(s, at, 41, 0);
     if !closes {
         return from_words(s, nine);
@@ -68,11 +91,11 @@ fn from_close(s: &[u8], nine: usize) -> InputRead
 }
 
 fn from_carried(s: &[u8], nine: usize) -> InputRead
-    requires { ⌜ nine ≤ 16 ⌝ }
+    requires { ⌜ nine ≤ ninesMost ⌝ }
     ensures { λ r. ⌜ Read (now (s .entry)) r ⌝ }
 {
-    let at = 6 + 4 * nine;
-    let there = has_body(s, at, 38, 140);
+    let at = CARRIED_AT + 4 * nine;
+    let there = has_body(s, at, CARRIED_KIND, CARRIED_LENGTH);
     if !there {
         return InputRead::BadAt(at);
     }
@@ -87,7 +110,7 @@ fn from_carried(s: &[u8], nine: usize) -> InputRead
 pub(crate) fn read_input(s: &[u8]) -> InputRead
     ensures { λ r. ⌜ Read (now (s .entry)) r ⌝ }
 {
-    let w = words_record(s, 0, 37, 64);
+    let w = words_record(s, 0, 37, NINES_BYTES);
     match w {
         WordsRecord::NoWords => InputRead::BadAt(0),
         WordsRecord::Words(nine) => from_carried(s, nine),

@@ -1,13 +1,15 @@
 // What is printed: a line, record 38 with what is carried, and of a piece record 39 with the words.
 ghost use Prim.Native.Nat.{_≤_};
 ghost use lib.ListN.{length};
-use carried_record::carried_record;
+ghost use Rattle.expander_rules.specs.Sizes.{neededMost};
+ghost use Rattle.expand.specs.Sizes.{wordsRecord};
 use expander_rules::Carried;
 use format::run::write_head;
 use format::run::write_words;
 use libc::STDOUT_FILENO;
 use machine::refusal::Refusal;
 use machine::refusal::refusal_number;
+use program_carried::carried_record;
 
 fn print_line(name: &[u8], n: usize) {
     io::write_all(STDOUT_FILENO, name);
@@ -37,7 +39,7 @@ pub(crate) fn print_closed(carried: Carried) {
 
 // Record 39, made in the room lent for it. Internal: there is room.
 fn print_words(words: &[u32], bytes: &mut [u8])
-    requires { ⌜ (length (now words) ≤ 65536) × (262150 ≤ length (now bytes)) ⌝ }
+    requires { ⌜ (length (now words) ≤ neededMost) × (wordsRecord ≤ length (now bytes)) ⌝ }
 {
     let n = words.len();
     write_head(bytes, 0, (4 * n) as u32, 39);
@@ -47,7 +49,7 @@ fn print_words(words: &[u32], bytes: &mut [u8])
 
 // Internal: there is room for the words.
 pub(crate) fn print_done(words: &[u32], carried: Carried, bytes: &mut [u8])
-    requires { ⌜ (length (now words) ≤ 65536) × (262150 ≤ length (now bytes)) ⌝ }
+    requires { ⌜ (length (now words) ≤ neededMost) × (wordsRecord ≤ length (now bytes)) ⌝ }
 {
     print_line(b"words ", words.len());
     print_carried(carried);

@@ -1,2 +1,1 @@
-pub mod NineWords
 pub mod MopParts

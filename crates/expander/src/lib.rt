@@ -5,41 +5,41 @@ ghost use mathlib.Core.List.{[]};
 ghost use mathlib.Core.Path.{_≡_};
 ghost use Prim.Native.Nat.{min, _≤_};
 ghost use lib.ListN.{length};
-ghost use Rattle.answers.specs.Answers.{accepted};
-ghost use Rattle.replay_buffer.specs.Replay.{anyReplay, loading};
+ghost use Rattle.machine.specs.Answers.{accepted};
 ghost use Rattle.expander_rules.specs.declared.Answer.the-variants.{Refused};
-ghost use Rattle.expander_rules.specs.State.{freshCarried, badLoad};
-ghost use Rattle.expander_rules.specs.Call.{told, call, faultOf, neededMost, expansionOf, doneWith, expandOf, closeOf};
-use crate::bad_load::is_bad_load;
-use answers::Access;
+ghost use Rattle.expander_rules.specs.Sizes.{nineCount, neededMost, partMost};
+ghost use Rattle.expander_rules.specs.Stream.{anyReplay};
+ghost use Rattle.expander_rules.specs.Replay.{isLoading};
+ghost use Rattle.expander_rules.specs.State.{freshCarried};
+ghost use Rattle.expander_rules.specs.Call.{toldAnswer, expanding, faultOf, expansionOf, doneWith, expandOf, closeOf};
+ghost use Rattle.expander_rules.specs.Admitted.{Admitted};
+use expander_mop::count;
+use expander_mop::limits;
+use expander_mop::stream;
+use expander_replay::loads::any_replay;
+use expander_replay::loads::is_loading;
+use expander_replay::loads::load_formed;
 use expander_rules::Answer;
 use expander_rules::Carried;
 use expander_rules::Expanded;
+use expander_rules::Load;
+use expander_rules::sizes::NEEDED_MOST;
+use expander_rules::sizes::NINE;
+use expander_rules::sizes::NOP;
+use expander_rules::sizes::SLOTS;
+use expander_templates::count::lesser;
+use machine::access::Access;
 use machine::refusal::Refusal;
 use machine::sizes::STREAM_WORDS;
-use replay_buffer::SLOTS;
-use replay_buffer::load::Load;
-use replay_buffer::load::any_replay;
-use replay_buffer::load::is_loading;
-use replay_buffer::survey::least;
 
-mod bad_load;
-mod count;
-mod limits;
-mod mask;
-mod nine;
 mod parts;
 mod pass;
-mod stream;
 mod survey;
-
-// The most words that a call may need.
-const NEEDED_MOST: usize = 65536;
 
 pub fn fresh_carried() -> Carried
     ensures { λ r. ⌜ r ≡ freshCarried ⌝ }
 {
-    let slots = [0x0200_0000u32; SLOTS];
+    let slots = [NOP; SLOTS];
     Carried {
         high_mask: 0,
         slots,
@@ -65,8 +65,8 @@ fn write(
     room: &mut [u32],
     out: &mut [u32],
 ) -> Expanded
-    requires { ⌜ (length (now nine) ≡ 9) × (length (now room) ≡ 640) × (faultOf (now nine) (carried .«high_mask») (carried .load) (now input) ≡ accepted tt) × (needed ≡ length (expansionOf (now nine) carried (now input) .words)) × (needed ≤ length (now out)) ⌝ }
-    ensures { λ r. ⌜ call (told (r .answer)) (r .carried) (now (out .exit)) ≡ doneWith (expansionOf (now (nine .entry)) carried (now (input .entry))) (now (out .entry)) ⌝ }
+    requires { ⌜ (length (now nine) ≡ nineCount) × (length (now room) ≡ partMost) × (faultOf (now nine) (carried .«high_mask») (carried .load) (now input) ≡ accepted tt) × (needed ≡ length (expansionOf (now nine) carried (now input) .words)) × (needed ≤ length (now out)) ⌝ }
+    ensures { λ r. ⌜ expanding (toldAnswer (r .answer)) (r .carried) (now (out .exit)) ≡ doneWith (expansionOf (now (nine .entry)) carried (now (input .entry))) (now (out .entry)) ⌝ }
 {
     let mut slots = carried.slots;
     let load = carried.load;
@@ -92,15 +92,15 @@ fn expand_replayed(
     limit: usize,
     out: &mut [u32],
 ) -> Expanded
-    requires { ⌜ (length (now nine) ≡ 9) × (length (now input) ≤ 65536) × (limit ≡ min (length (now out)) neededMost) × (badLoad (carried .load) ≡ false) ⌝ }
-    ensures { λ r. ⌜ call (told (r .answer)) (r .carried) (now (out .exit)) ≡ expandOf (now (nine .entry)) carried (now (input .entry)) (now (out .entry)) ⌝ }
+    requires { ⌜ Admitted (now nine) carried (now input) × (limit ≡ min (length (now out)) neededMost) ⌝ }
+    ensures { λ r. ⌜ expanding (toldAnswer (r .answer)) (r .carried) (now (out .exit)) ≡ expandOf (now (nine .entry)) carried (now (input .entry)) (now (out .entry)) ⌝ }
 {
     let mut room = parts::part_room();
     let load = carried.load;
     let seen = survey::survey_stream(nine, carried.high_mask, load, input, limit, &mut room);
     let access = seen.access;
     match access {
-        Access::Denied(why) => refuse(why, carried),
+        Access::Refused(why) => refuse(why, carried),
         Access::Granted => {
             if limit < seen.count {
                 return refuse(Refusal::ShortOutput, carried);
@@ -118,8 +118,8 @@ fn expand_plain(
     limit: usize,
     out: &mut [u32],
 ) -> Expanded
-    requires { ⌜ (length (now nine) ≡ 9) × (length (now input) ≤ 65536) × (limit ≡ min (length (now out)) neededMost) × (anyReplay (now nine) ≡ false) × (anyReplay (now input) ≡ false) × (badLoad (carried .load) ≡ false) × (loading (carried .load) ≡ false) ⌝ }
-    ensures { λ r. ⌜ call (told (r .answer)) (r .carried) (now (out .exit)) ≡ expandOf (now (nine .entry)) carried (now (input .entry)) (now (out .entry)) ⌝ }
+    requires { ⌜ Admitted (now nine) carried (now input) × (limit ≡ min (length (now out)) neededMost) × (anyReplay (now nine) ≡ false) × (anyReplay (now input) ≡ false) × (isLoading (carried .load) ≡ false) ⌝ }
+    ensures { λ r. ⌜ expanding (toldAnswer (r .answer)) (r .carried) (now (out .exit)) ≡ expandOf (now (nine .entry)) carried (now (input .entry)) (now (out .entry)) ⌝ }
 {
     let over = limits::bad_rounds(nine, input);
     if over {
@@ -142,20 +142,20 @@ fn expand_plain(
 // Expands `input`, a piece of a stream, into `out`; a load goes on over its end. `nine` is the words m0 to m8: they are lent, and another
 // number of them is refused by 4.
 pub fn expand(nine: &[u32], carried: Carried, input: &[u32], out: &mut [u32]) -> Expanded
-    ensures { λ r. ⌜ call (told (r .answer)) (r .carried) (now (out .exit)) ≡ expandOf (now (nine .entry)) carried (now (input .entry)) (now (out .entry)) ⌝ }
+    ensures { λ r. ⌜ expanding (toldAnswer (r .answer)) (r .carried) (now (out .exit)) ≡ expandOf (now (nine .entry)) carried (now (input .entry)) (now (out .entry)) ⌝ }
 {
-    if nine.len() != 9 {
+    if nine.len() != NINE {
         return refuse(Refusal::BadLength, carried);
     }
     if STREAM_WORDS < input.len() {
         return refuse(Refusal::BadLength, carried);
     }
     let load = carried.load;
-    let bad = is_bad_load(load);
-    if bad {
+    let formed = load_formed(load);
+    if !formed {
         return refuse(Refusal::Malformed, carried);
     }
-    let limit = least(out.len(), NEEDED_MOST);
+    let limit = lesser(out.len(), NEEDED_MOST);
     let replays = bits::either(any_replay(nine), any_replay(input));
     let special = bits::either(replays, is_loading(load));
     if special {
@@ -166,11 +166,11 @@ pub fn expand(nine: &[u32], carried: Carried, input: &[u32], out: &mut [u32]) ->
 
 // Ends a stream after its last piece: a load that is on ends with what came, and mask and slots stay. It writes nothing.
 pub fn close(carried: Carried) -> Expanded
-    ensures { λ r. ⌜ call (told (r .answer)) (r .carried) [] ≡ closeOf carried ⌝ }
+    ensures { λ r. ⌜ expanding (toldAnswer (r .answer)) (r .carried) [] ≡ closeOf carried ⌝ }
 {
     let load = carried.load;
-    let bad = is_bad_load(load);
-    if bad {
+    let formed = load_formed(load);
+    if !formed {
         return refuse(Refusal::Malformed, carried);
     }
     let slots = carried.slots;

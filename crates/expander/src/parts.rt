@@ -1,20 +1,17 @@
 // A MOP in parts: where a load is on or one of the nine words is a REPLAY, each part is written to a room of its own and goes through
 // the replay stage from there.
-ghost use mathlib.Core.Bool.{_&&_, false};
 ghost use mathlib.Core.Path.{_≡_};
 ghost use Prim.Native.Nat.{_≤_, _<_};
 ghost use lib.ListN.{length, take};
-ghost use Rattle.bits.specs.Field.{flag};
-ghost use Rattle.templates.specs.Templates.{nth};
+ghost use Rattle.expander_rules.specs.Sizes.{nineCount, partMost};
+ghost use Rattle.expander_rules.specs.Templates.{nth};
 ghost use Rattle.expander_rules.specs.Stream.{opcode};
-ghost use Rattle.expander_rules.specs.Call.{overRounds};
-ghost use Rattle.expander.specs.Parts.{partCount, roundWords, partWords, mopPart};
-use crate::nine::nine_words;
-use crate::stream::put_stream;
-use templates::template_1::last_word;
-
-// The most words of a part: 128 rounds of 5 words in template 0; an outer round of template 1 has at most 257.
-const PART_MOST: usize = 640;
+ghost use Rattle.expander.specs.Parts.{partCount, roundWords, partWords, mopPart, WordFits};
+use expander_mop::nine::nine_words;
+use expander_mop::stream::put_stream;
+use expander_rules::sizes::NINE;
+use expander_rules::sizes::PART_MOST;
+use expander_templates::template_1::last_word;
 
 // Internal: room for a part.
 pub(crate) fn part_room() -> [u32; PART_MOST] {
@@ -23,7 +20,7 @@ pub(crate) fn part_room() -> [u32; PART_MOST] {
 
 // Internal: how many parts a MOP has.
 pub(crate) fn part_count(nine: &[u32], word: u32) -> u32
-    requires { ⌜ length (now nine) ≡ 9 ⌝ }
+    requires { ⌜ length (now nine) ≡ nineCount ⌝ }
     ensures { λ r. ⌜ r ≡ partCount (now (nine .entry)) word ⌝ }
 {
     if word / 8388608 % 2 == 1 {
@@ -33,8 +30,8 @@ pub(crate) fn part_count(nine: &[u32], word: u32) -> u32
 }
 
 // The nine words of which template 1 makes outer round `o` alone.
-fn round_words(nine: &[u32], o: u32) -> [u32; 9]
-    requires { ⌜ (length (now nine) ≡ 9) × (o < nth (now nine) 0) ⌝ }
+fn round_words(nine: &[u32], o: u32) -> [u32; NINE]
+    requires { ⌜ (length (now nine) ≡ nineCount) × (o < nth (now nine) 0) ⌝ }
     ensures { λ r. ⌜ r ≡ roundWords (now (nine .entry)) o ⌝ }
 {
     let last = last_word(nine, o);
@@ -52,8 +49,8 @@ fn round_words(nine: &[u32], o: u32) -> [u32; 9]
 }
 
 // The nine words of which a MOP makes its part `o` alone.
-fn part_words(nine: &[u32], word: u32, o: u32) -> [u32; 9]
-    requires { ⌜ (length (now nine) ≡ 9) × (o < partCount (now nine) word) ⌝ }
+fn part_words(nine: &[u32], word: u32, o: u32) -> [u32; NINE]
+    requires { ⌜ (length (now nine) ≡ nineCount) × (o < partCount (now nine) word) ⌝ }
     ensures { λ r. ⌜ r ≡ partWords (now (nine .entry)) word o ⌝ }
 {
     if word / 8388608 % 2 == 1 {
@@ -64,8 +61,8 @@ fn part_words(nine: &[u32], word: u32, o: u32) -> [u32; 9]
 
 // Internal: a part of a MOP, at the start of a room for it; the answer is how many words it has.
 pub(crate) fn put_part(nine: &[u32], high: u16, word: u32, o: u32, room: &mut [u32]) -> usize
-    requires { ⌜ (length (now nine) ≡ 9) × ((overRounds (now nine) && flag 23 word) ≡ false) × (o < partCount (now nine) word) × (length (now room) ≡ 640) × (opcode word ≡ 1) ⌝ }
-    ensures { λ r. ⌜ (take r (now (room .exit)) ≡ mopPart (now (nine .entry)) high word o) × (r ≤ 640) ⌝ }
+    requires { ⌜ WordFits (now nine) word (now room) × (opcode word ≡ 1) × (o < partCount (now nine) word) ⌝ }
+    ensures { λ r. ⌜ (take r (now (room .exit)) ≡ mopPart (now (nine .entry)) high word o) × (r ≤ partMost) ⌝ }
 {
     let words = part_words(nine, word, o);
     let one = [word];

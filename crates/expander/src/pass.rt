@@ -1,74 +1,73 @@
 // Writing what a stream gives, once it is known to be sound and to fit.
-ghost use mathlib.Core.Bool.{false, not, _&&_};
+ghost use mathlib.Core.Bool.{not};
 ghost use mathlib.Core.Path.{_≡_};
-ghost use Prim.Native.Nat.{_+_, _≤_};
+ghost use Prim.Native.Nat.{_≤_};
 ghost use lib.ListN.{length};
 ghost use Rattle.bits.specs.Overwrite.{over};
-ghost use Rattle.bits.specs.Field.{flag};
-ghost use Rattle.answers.specs.Answers.{accepted};
-ghost use Rattle.replay_buffer.specs.Passing.{Passes};
-ghost use Rattle.replay_buffer.specs.Replay.{anyReplay, buffer, playWords};
-ghost use Rattle.expander_rules.specs.Stream.{opcode, mopWords, wordOf, streamOf};
-ghost use Rattle.expander_rules.specs.Call.{isTemplate1, overRounds, faultOf};
-use crate::mask::mask_after;
+ghost use Rattle.machine.specs.Answers.{accepted};
+ghost use Rattle.expander_rules.specs.Sizes.{nineCount, slotCount, partMost};
+ghost use Rattle.expander_rules.specs.Stream.{opcode, mopWords, anyReplay, emissionOf, streamOf};
+ghost use Rattle.expander_rules.specs.Replay.{buffer, playWords};
+ghost use Rattle.expander_rules.specs.Call.{faultOf};
+ghost use Rattle.expander_replay.specs.Passing.{Passable, Passes};
+ghost use Rattle.expander.specs.Parts.{WordFits};
 use crate::parts;
-use crate::stream::put_stream;
-use replay_buffer::load::Load;
-use replay_buffer::load::any_replay;
-use replay_buffer::load::is_loading;
-use replay_buffer::pass::Passed;
-use replay_buffer::pass::pass_word;
-use replay_buffer::pass::pass_words;
+use expander_mop::mask::mask_after;
+use expander_mop::stream::put_stream;
+use expander_replay::loads::any_replay;
+use expander_replay::loads::is_loading;
+use expander_replay::pass::Passed;
+use expander_replay::pass::pass_word;
+use expander_replay::pass::pass_words;
+use expander_rules::Load;
 
 // Any MOP, part by part.
 fn pass_parts(
     nine: &[u32],
     high: u16,
     word: u32,
-    load: Load,
+    start: Passed,
     slots: &mut [u32],
     room: &mut [u32],
-    at: usize,
     out: &mut [u32],
 ) -> Passed
-    requires { ⌜ (length (now nine) ≡ 9) × ((overRounds (now nine) && flag 23 word) ≡ false) × (length (now slots) ≡ 32) × (length (now room) ≡ 640) × (at + length (playWords (buffer (now slots) load) (mopWords (now nine) high word) .words) ≤ length (now out)) × (opcode word ≡ 1) ⌝ }
-    ensures { λ r. ⌜ Passes (buffer (now (slots .entry)) load) (mopWords (now (nine .entry)) high word) (now (out .entry)) at (now (slots .exit)) (now (out .exit)) r ⌝ }
+    requires { ⌜ WordFits (now nine) word (now room) × (opcode word ≡ 1) × Passable (now slots) start (mopWords (now nine) high word) (now out) ⌝ }
+    ensures { λ r. ⌜ Passes (now (slots .entry)) start (mopWords (now (nine .entry)) high word) (now (out .entry)) (now (slots .exit)) (now (out .exit)) r ⌝ }
 {
     let count = parts::part_count(nine, word);
-    let mut p = Passed { at, load };
+    let mut p = start;
     let mut o: u32 = 0;
     while o < count {
         let n = parts::put_part(nine, high, word, o, room);
-        let now = p.load;
-        p = pass_words(&room[..n], now, slots, p.at, out);
+        p = pass_words(&room[..n], p, slots, out);
         o += 1;
     }
     p
 }
 
-// A MOP none of whose words is a REPLAY, while no load is on, is written where it stands.
+// A MOP; `plain` says that none of the nine words is a REPLAY. Such a MOP, while no load is on, is written where it stands.
 fn pass_mop(
     nine: &[u32],
     plain: bool,
     high: u16,
     word: u32,
-    load: Load,
+    p: Passed,
     slots: &mut [u32],
     room: &mut [u32],
-    at: usize,
     out: &mut [u32],
 ) -> Passed
-    requires { ⌜ (length (now nine) ≡ 9) × (plain ≡ not (anyReplay (now nine))) × ((overRounds (now nine) && flag 23 word) ≡ false) × (length (now slots) ≡ 32) × (length (now room) ≡ 640) × (at + length (playWords (buffer (now slots) load) (mopWords (now nine) high word) .words) ≤ length (now out)) × (opcode word ≡ 1) ⌝ }
-    ensures { λ r. ⌜ Passes (buffer (now (slots .entry)) load) (mopWords (now (nine .entry)) high word) (now (out .entry)) at (now (slots .exit)) (now (out .exit)) r ⌝ }
+    requires { ⌜ (plain ≡ not (anyReplay (now nine))) × WordFits (now nine) word (now room) × (opcode word ≡ 1) × Passable (now slots) p (mopWords (now nine) high word) (now out) ⌝ }
+    ensures { λ r. ⌜ Passes (now (slots .entry)) p (mopWords (now (nine .entry)) high word) (now (out .entry)) (now (slots .exit)) (now (out .exit)) r ⌝ }
 {
+    let load = p.load;
     let on = is_loading(load);
     let direct = bits::both(plain, !on);
     if direct {
         let one = [word];
-        let put = put_stream(nine, high, &one, at, out);
+        let put = put_stream(nine, high, &one, p.at, out);
         return Passed { at: put.at, load };
     }
-    pass_parts(nine, high, word, load, slots, room, at, out)
+    pass_parts(nine, high, word, p, slots, room, out)
 }
 
 // What a word of the stream gives.
@@ -77,19 +76,18 @@ fn pass_emission(
     plain: bool,
     high: u16,
     word: u32,
-    load: Load,
+    p: Passed,
     slots: &mut [u32],
     room: &mut [u32],
-    at: usize,
     out: &mut [u32],
 ) -> Passed
-    requires { ⌜ (length (now nine) ≡ 9) × (plain ≡ not (anyReplay (now nine))) × ((overRounds (now nine) && isTemplate1 word) ≡ false) × (length (now slots) ≡ 32) × (length (now room) ≡ 640) × (at + length (playWords (buffer (now slots) load) (wordOf (now nine) high word .words) .words) ≤ length (now out)) ⌝ }
-    ensures { λ r. ⌜ Passes (buffer (now (slots .entry)) load) (wordOf (now (nine .entry)) high word .words) (now (out .entry)) at (now (slots .exit)) (now (out .exit)) r ⌝ }
+    requires { ⌜ (plain ≡ not (anyReplay (now nine))) × WordFits (now nine) word (now room) × Passable (now slots) p (emissionOf (now nine) high word .words) (now out) ⌝ }
+    ensures { λ r. ⌜ Passes (now (slots .entry)) p (emissionOf (now (nine .entry)) high word .words) (now (out .entry)) (now (slots .exit)) (now (out .exit)) r ⌝ }
 {
     match word / 16777216 % 256 {
-        1 => pass_mop(nine, plain, high, word, load, slots, room, at, out),
-        3 => Passed { at, load },
-        _ => pass_word(word, load, slots, at, out),
+        1 => pass_mop(nine, plain, high, word, p, slots, room, out),
+        3 => p,
+        _ => pass_word(word, p, slots, out),
     }
 }
 
@@ -109,7 +107,7 @@ pub(crate) fn pass_stream(
     room: &mut [u32],
     out: &mut [u32],
 ) -> HandedOn
-    requires { ⌜ (length (now nine) ≡ 9) × (faultOf (now nine) high load (now input) ≡ accepted tt) × (length (now slots) ≡ 32) × (length (now room) ≡ 640) × (length (playWords (buffer (now slots) load) (streamOf (now nine) high (now input) .words) .words) ≤ length (now out)) ⌝ }
+    requires { ⌜ (length (now nine) ≡ nineCount) × (faultOf (now nine) high load (now input) ≡ accepted tt) × (length (now slots) ≡ slotCount) × (length (now room) ≡ partMost) × (length (playWords (buffer (now slots) load) (streamOf (now nine) high (now input) .words) .words) ≤ length (now out)) ⌝ }
     ensures mask { λ r. ⌜ r .high ≡ streamOf (now (nine .entry)) high (now (input .entry)) .high ⌝ }
     ensures taken { λ r. ⌜ buffer (now (slots .exit)) (r .load) ≡ playWords (buffer (now (slots .entry)) load) (streamOf (now (nine .entry)) high (now (input .entry)) .words) .buffer ⌝ }
     ensures wrote { λ _. ⌜ now (out .exit) ≡ over (now (out .entry)) 0 (playWords (buffer (now (slots .entry)) load) (streamOf (now (nine .entry)) high (now (input .entry)) .words) .words) ⌝ }
@@ -120,8 +118,7 @@ pub(crate) fn pass_stream(
     let mut i: usize = 0;
     while i < input.len() {
         let word = input[i];
-        let now = p.load;
-        p = pass_emission(nine, plain, mask, word, now, slots, room, p.at, out);
+        p = pass_emission(nine, plain, mask, word, p, slots, room, out);
         mask = mask_after(mask, word);
         i += 1;
     }

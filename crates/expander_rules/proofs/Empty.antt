@@ -3,24 +3,24 @@ use Prim.Native.Nat.{ℕ}
 use mathlib.Core.Bool.{Bool, true, false, cond, _&&_}
 use mathlib.Core.List.{List, [], _∷_, _++_}
 use mathlib.Core.Path.{_≡_, refl, ap}
-use lib.ListN.{length}
-use borrow.Author.Tests.{le-ltb}
-use Rattle.answers.specs.Answers.{Told, accepted, refused}
-use Rattle.replay_buffer.specs.Replay.{isReplay, isLoad, loading, loadBy, loadAfter, loadsAfter, obeyedBadly, anyObeyedBadly, Buffer, buffer, written, slotsAfter, Played, played, playWords}
-use Rattle.replay_buffer.specs.declared.load.Load.{Load}
-use Rattle.replay_buffer.specs.declared.load.Load.the-variants.{NoLoad, Taking}
-use Rattle.expander_rules.specs.Call.{badLength, faultOf, shortOutput, refusedBy, unlessRefused, doneWith, expansion, expansionOf, expandOf}
+use borrow.Author.Tests.{lt-ltb}
+use Rattle.machine.specs.Answers.{Told, accepted, refused}
+use Rattle.expander_rules.specs.Sizes.{slotCount}
+use Rattle.expander_rules.specs.Stream.{isReplay, emissionOf, streamOf}
+use Rattle.expander_rules.specs.Replay.{isLoad, isLoading, loadBy, loadAfter, loadsAfter, obeyedBadly, anyObeyedBadly, buffer, written, slotsAfter, Played, playWords}
+use Rattle.expander_rules.specs.State.{carry, loadFormed}
+use Rattle.expander_rules.specs.Call.{Expanding, expansionOf, faultOf, expandCheck, ifAccepted, doneWith, expandOf}
 use Rattle.expander_rules.specs.Promises.{SameButLoad, EmptyLoads}
-use Rattle.expander_rules.specs.State.{carry, badLoad}
-use Rattle.expander_rules.specs.Stream.{wordOf, streamOf}
+use Rattle.expander_rules.specs.declared.Load.{Load}
+use Rattle.expander_rules.specs.declared.Load.the-variants.{NoLoad, Taking}
 
 -- two loads that take the same words: one and the same, or neither takes any
 data Alike (a b : Load) : Type 0 where
   same : a ≡ b → Alike a b
-  idle : loading a ≡ false → loading b ≡ false → Alike a b
+  idle : isLoading a ≡ false → isLoading b ≡ false → Alike a b
 
 -- a word that neither takes
-alike-begun : (a b : Load) (word : ℕ) → loading a ≡ false → loading b ≡ false → Alike (loadAfter a word) (loadAfter b word)
+alike-begun : (a b : Load) (word : ℕ) → isLoading a ≡ false → isLoading b ≡ false → Alike (loadAfter a word) (loadAfter b word)
 unfolding loadAfter
 alike-begun a b word p q = rw (p, q) (go (isReplay word && isLoad word))
   where
@@ -51,7 +51,7 @@ alike-fault : (m : List ℕ) (high : ℕ) (a b : Load) (l : List ℕ) → Alike 
 unfolding faultOf
 alike-fault m high a b [] h = refl
 alike-fault m high a b (word ∷ l) h =
-    let w = wordOf m high word in
+    let w = emissionOf m high word in
     rw (alike-bad a b (w .words) h, alike-fault m (w .high) (loadsAfter a (w .words)) (loadsAfter b (w .words)) l (alike-words a b (w .words) h))
 
 -- the words written out, and the slots
@@ -78,25 +78,25 @@ alike-play s a b (word ∷ l) h =
     (record { words = ap (λ (x : List ℕ). written (buffer s b) word ++ x) (later .words); slots = later .slots })
 
 -- calls with loads that take the same words
-alike-call : (m : List ℕ) (high : ℕ) (s : List ℕ) (a b : Load) (l out : List ℕ) → badLoad a ≡ false → badLoad b ≡ false → Alike a b →
-    SameButLoad (expandOf m (carry high s a) l out) (expandOf m (carry high s b) l out)
-unfolding expandOf expansionOf
-alike-call m high s a b l out p q h =
-    let mops = streamOf m high l in
-    let played = alike-play s a b (mops .words) h in
-    rw (p, q, alike-fault m high a b l h, played .words) (go (badLength m l) (faultOf m high b l) (shortOutput out (length (playWords (buffer s b) (mops .words) .words))) (playWords (buffer s a) (mops .words) .buffer) (playWords (buffer s b) (mops .words) .buffer) (played .slots))
-  where
-    words : List ℕ
-    words = playWords (buffer s b) (streamOf m high l .words) .words
+alike-if : (high : ℕ) (s : List ℕ) (a b : Load) (out : List ℕ) (x y : Expanding) (check : Told (Unit {0})) → SameButLoad x y →
+    SameButLoad (ifAccepted check (carry high s a) out x) (ifAccepted check (carry high s b) out y)
+alike-if high s a b out x y (accepted t) h = h
+alike-if high s a b out x y (refused number values) h = record { answer = refl; output = refl; mask = refl; slots = refl }
 
-    go : (long : Bool) (fault : Told (Unit {0})) (short : Bool) (x y : Buffer) → x .slots ≡ y .slots →
-        SameButLoad
-        (cond long (refusedBy 4 (carry high s a) out) (unlessRefused fault (carry high s a) out (cond short (refusedBy 8 (carry high s a) out) (doneWith (expansion words (carry (streamOf m high l .high) (x .slots) (x .load))) out))))
-        (cond long (refusedBy 4 (carry high s b) out) (unlessRefused fault (carry high s b) out (cond short (refusedBy 8 (carry high s b) out) (doneWith (expansion words (carry (streamOf m high l .high) (y .slots) (y .load))) out))))
-    go true fault short x y e = record { answer = refl; output = refl; mask = refl; slots = refl }
-    go false (refused number values) short x y e = record { answer = refl; output = refl; mask = refl; slots = refl }
-    go false (accepted t) true x y e = record { answer = refl; output = refl; mask = refl; slots = refl }
-    go false (accepted t) false x y e = record { answer = refl; output = refl; mask = refl; slots = e }
+module _ (m : List ℕ) (high : ℕ) (s : List ℕ) (a b : Load) (l out : List ℕ) (h : Alike a b) where
+  alike-done : SameButLoad (doneWith (expansionOf m (carry high s a) l) out) (doneWith (expansionOf m (carry high s b) l) out)
+  unfolding expansionOf
+  alike-done =
+      let p = alike-play s a b (streamOf m high l .words) h in
+      rw (p .words) (record { answer = refl; output = refl; mask = refl; slots = p .slots })
+
+  alike-check : loadFormed a ≡ true → loadFormed b ≡ true → expandCheck m (carry high s a) l out ≡ expandCheck m (carry high s b) l out
+  unfolding expandCheck expansionOf
+  alike-check p q = rw (p, q, alike-fault m high a b l h, alike-play s a b (streamOf m high l .words) h .words)
+
+  alike-call : loadFormed a ≡ true → loadFormed b ≡ true → SameButLoad (expandOf m (carry high s a) l out) (expandOf m (carry high s b) l out)
+  unfolding expandOf
+  alike-call p q = rw (alike-check p q) (alike-if high s a b out _ _ (expandCheck m (carry high s b) l out) alike-done)
 
 pub empty-loads : EmptyLoads
-empty-loads m high s next shown l out h = alike-call m high s (Taking next 0 shown) NoLoad l out (rw (le-ltb 31 next h)) refl (idle refl refl)
+empty-loads m high s next shown l out h = alike-call m high s (Taking next 0 shown) NoLoad l out (idle refl refl) (rw (lt-ltb next slotCount h)) refl

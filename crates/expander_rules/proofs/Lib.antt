@@ -1,9 +1,13 @@
-pub mod Folds
+pub mod Words
+pub mod Rounds
+pub mod StreamLaws
 pub mod Plain
+pub mod ReplayLaws
+pub mod PlayBack
 pub mod Faults
-pub mod Examples
 pub mod Calls
 pub mod Pieces
 pub mod Formed
 pub mod Empty
 pub mod Whole
+pub mod Examples

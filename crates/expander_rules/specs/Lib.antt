@@ -1,6 +1,10 @@
+pub mod Sizes
+pub mod Templates
 pub mod Stream
+pub mod Replay
 pub mod State
-pub mod Counts
 pub mod Call
 pub mod Pieces
 pub mod Promises
+pub mod Counts
+pub mod Admitted

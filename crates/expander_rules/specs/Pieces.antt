@@ -2,7 +2,7 @@
 use Prim.Native.Nat.{ℕ}
 use mathlib.Core.List.{List, [], _∷_, _++_}
 use lib.ListN.{take}
-use Rattle.answers.specs.Answers.{Told, accepted, refused}
+use Rattle.machine.specs.Answers.{Told, accepted, refused}
 use Rattle.expander_rules.specs.Call.{Expansion, expansion, expandOf}
 use Rattle.expander_rules.specs.declared.Carried.{Carried}
 
@@ -12,9 +12,9 @@ pub record Piece : Type 0 where
   pub output : List ℕ
 
 -- "the joined stream"
-unfoldable pub joined : List Piece → List ℕ
-joined [] = []
-joined (p ∷ ps) = p .words ++ joined ps
+unfoldable pub joinedWords : List Piece → List ℕ
+joinedWords [] = []
+joinedWords (p ∷ ps) = p .words ++ joinedWords ps
 
 -- what a call has written, if it is accepted, before what those after it write
 abbrev pub writtenThen : Told ℕ → List ℕ → Told Expansion → Told Expansion

@@ -1,9 +1,17 @@
 // What the expander is (document 01, "Expander"; document 02, K1 and K2): its definitions, the laws that the code cites, and what holds of all
 // calls.
-ghost use Rattle.expander_rules.specs.Promises.{CutAnywhere, JoinedPieces, RefusedPieces, CarriesFormed, EmptyLoads, ExpanderExamples, Stages, PlainStreams, SlotsHandedBack, FreshExpander};
+ghost use Rattle.expander_rules.specs.Promises.{LoadsPlayBack, SlotsKept, PlainWords, CutAnywhere, JoinedPieces, RefusedPieces, CarriesFormed, EmptyLoads, ExpanderExamples, Stages, PlainStreams, SlotsHandedBack, FreshExpander};
+use crate::sizes::SLOTS;
 use machine::refusal::Refusal;
-use replay_buffer::SLOTS;
-use replay_buffer::load::Load;
+
+pub mod sizes;
+
+// A load: the words to come that slots take. None, or the slot for the next word, how many words are to come, and whether they are
+// written out too.
+pub enum Load {
+    NoLoad,
+    Taking { next: u32, left: u32, shown: bool },
+}
 
 // What a thread's expander carries from one piece of its stream to the next: the high mask, and slots and load of the replay stage.
 pub struct Carried {
@@ -25,11 +33,17 @@ pub struct Expanded {
 
 // What is promised of the expander as a whole.
 pub fn promises()
+    // the replay stage
+    ensures back { λ _. ⌜ LoadsPlayBack ⌝ }
+    ensures kept { λ _. ⌜ SlotsKept ⌝ }
+    ensures words { λ _. ⌜ PlainWords ⌝ }
+    // pieces
     ensures cut { λ _. ⌜ CutAnywhere ⌝ }
     ensures joined { λ _. ⌜ JoinedPieces ⌝ }
     ensures refused { λ _. ⌜ RefusedPieces ⌝ }
     ensures formed { λ _. ⌜ CarriesFormed ⌝ }
     ensures empty { λ _. ⌜ EmptyLoads ⌝ }
+    // a call
     ensures examples { λ _. ⌜ ExpanderExamples ⌝ }
     ensures stages { λ _. ⌜ Stages ⌝ }
     ensures plain { λ _. ⌜ PlainStreams ⌝ }

@@ -24,11 +24,15 @@ pub le-two : (at : ℕ) (s : List ℕ) → getD s at 0 + 256 * getD s (at + 1) 0
 unfolding le
 le-two at s = sym (rw (drop-drop 1 at s, getD-drop at s 0 0, getD-drop (at + 1) s 0 0, add-zero at, add-zero (at + 1)) (omega arith))
 
-pub le-past-half : (w at : ℕ) (s : List ℕ) → le 2 (drop at s) + 65536 * le w (drop (at + 2) s) ≡ le (suc (suc w)) (drop at s)
+le-past-half : (w at : ℕ) (s : List ℕ) → le 2 (drop at s) + 65536 * le w (drop (at + 2) s) ≡ le (suc (suc w)) (drop at s)
 unfolding le
 le-past-half w at s =
     let e : at + 1 + 1 ≡ at + 2 = omega arith in
     rw (drop-drop 1 at s, drop-drop 1 (at + 1) s, e) (omega arith)
+
+pub le-joined : (k w at : ℕ) (s : List ℕ) {low high : ℕ} → w ≡ suc (suc k) → low ≡ le 2 (drop at s) → high ≡ le k (drop (at + 2) s) →
+    low + 65536 * high ≡ le w (drop at s)
+le-joined k w at s e p q = rw (e, p, q) (le-past-half k at s)
 
 pub enc-past-half : (w n : ℕ) → enc (suc (suc w)) n ≡ enc 2 (n % 65536) ++ enc w (n / 65536)
 unfolding enc

@@ -1,7 +1,7 @@
 -- What makes a format right, and one law for each way of making a format, over every width, count and limit.
 use Prim.Native.Nat.{ℕ, zero, suc, _+_, _*_, _^_, _≤_, _<_}
 use mathlib.Core.Path.{_≡_, refl, sym, ap, ap₂, _∙_, subst}
-use mathlib.Core.Bool.{true, false}
+use mathlib.Core.Bool.{Bool, true, false, _&&_}
 use mathlib.Core.List.{List, [], _∷_, _++_, append-assoc, append-nil}
 use native.Mathlib.Nat.{suc-mul}
 use native.Mathlib.Omega.{arith}
@@ -14,7 +14,7 @@ use Rattle.bits.specs.Ranges.{allAtMost}
 use Rattle.bits.proofs.Bytes.{bytes-drop, enc-long, le-enc, enc-le}
 use Rattle.bits.proofs.Choices.{and-left, and-right, and-intro}
 use Rattle.format.specs.Format.{Format, num, dep, both, many, manyPut, manyGet, manyGood, manyOk, numbers, viaOn, via, fixed, kind, accepts}
-use Rattle.format.proofs.Fields.{num-in, num-le, num-whole, onward-on, onward-le, onward-whole}
+use Rattle.format.proofs.Fields.{num-in, num-le, num-whole, across-on, across-le, across-whole, across-of}
 
 -- reading gives back what was written, and writing what was read gives back its bytes
 pub record Lawful {A : Type 0} (f : Format A) : Type 0 where
@@ -51,7 +51,7 @@ module _ {A B : Type 0} (f : Format A) (g : A → Format B) (s : ℕ) (F : Lawfu
   dep-whole : (bs : List ℕ) → dep f g s .good bs ≡ f .size + s →
       (f .good bs ≡ f .size) × (g (f .get bs) .good (drop (f .size) bs) ≡ g (f .get bs) .size)
   dep-whole bs e =
-      let k = onward-whole (f .good bs) (f .size) (g (f .get bs) .good (drop (f .size) bs)) s (F .good-le bs) (dep-le bs) e in
+      let k = across-whole (f .good bs) (f .size) (g (f .get bs) .good (drop (f .size) bs)) s (F .good-le bs) (dep-le bs) e in
       (k .0, k .1 ∙ sym (S (f .get bs)))
 
   pub dep-lawful : Lawful (dep f g s)
@@ -61,12 +61,15 @@ module _ {A B : Type 0} (f : Format A) (g : A → Format B) (s : ℕ) (F : Lawfu
             length-append (f .put (t .0)) (g (t .0) .put (t .1))
             ∙ ap₂ (λ (x y : ℕ). x + y) (F .long (t .0) (ok .0)) (G (t .0) .long (t .1) (ok .1) ∙ S (t .0));
         get-put = λ t rest ok.
-            rw (append-assoc (f .put (t .0)) (g (t .0) .put (t .1)) rest, F .get-put (t .0) (g (t .0) .put (t .1) ++ rest) (ok .0), dep-next t rest (ok .0))
+            let second = g (t .0) .put (t .1) in
+            rw (append-assoc (f .put (t .0)) second rest, F .get-put (t .0) (second ++ rest) (ok .0), dep-next t rest (ok .0))
             (ap (λ (y : B). (t .0, y)) (G (t .0) .get-put (t .1) rest (ok .1)));
         good-put = λ t rest ok.
-            rw (append-assoc (f .put (t .0)) (g (t .0) .put (t .1)) rest, F .get-put (t .0) (g (t .0) .put (t .1) ++ rest) (ok .0), dep-next t rest (ok .0), F .good-put (t .0) (g (t .0) .put (t .1) ++ rest) (ok .0), G (t .0) .good-put (t .1) rest (ok .1), S (t .0))
-            (onward-on (f .size) (f .size) s (omega arith));
-        good-le = λ bs. onward-le _ _ _ _ (F .good-le bs) (dep-le bs);
+            let second = g (t .0) .put (t .1) in
+            let goods = across-of (f .size) refl (F .good-put (t .0) (second ++ rest) (ok .0)) (G (t .0) .good-put (t .1) rest (ok .1) ∙ S (t .0)) in
+            rw (append-assoc (f .put (t .0)) second rest, F .get-put (t .0) (second ++ rest) (ok .0), dep-next t rest (ok .0))
+            (goods ∙ across-on (f .size) (f .size) s (omega arith));
+        good-le = λ bs. across-le _ _ _ _ (F .good-le bs) (dep-le bs);
         put-get = λ bs b e.
             let k = dep-whole bs e in
             rw (append-assoc, ← drop-drop s (f .size) bs, ← S (f .get bs), G (f .get bs) .put-get (drop (f .size) bs) (bytes-drop (f .size) bs b) (k .1))
@@ -114,7 +117,8 @@ many-lawful {A} (suc n) f F =
       get-put = λ l rest ok.
           many-more n f (λ (l : List A). manyGet (f .get) (f .size) (suc n) (manyPut (f .put) l ++ rest) ≡ l) (λ t ok. ap cons (R .get-put t rest ok)) l ok;
       good-put = λ l rest ok.
-          many-more n f (λ (l : List A). manyGood (f .good) (f .size) (suc n) (manyPut (f .put) l ++ rest) ≡ suc n * f .size) (λ t ok. R .good-put t rest ok ∙ sym size) l ok;
+          let good : List A → ℕ = λ l. manyGood (f .good) (f .size) (suc n) (manyPut (f .put) l ++ rest) in
+          many-more n f (λ (l : List A). good l ≡ suc n * f .size) (λ t ok. R .good-put t rest ok ∙ sym size) l ok;
       good-le = λ bs. subst (λ (k : ℕ). manyGood (f .good) (f .size) (suc n) bs ≤ k) (sym size) (R .good-le bs);
       put-get = λ bs b e. ap (λ (k : ℕ). manyPut (f .put) (manyGet (f .get) (f .size) (suc n) bs) ++ drop k bs) size ∙ R .put-get bs b (e ∙ size);
       ok-get = λ bs b e. R .ok-get bs b (e ∙ size);
@@ -166,6 +170,11 @@ module _ {A : Type 0} (f : Format A) (bs : List ℕ) where
   pub accepts-yes : length bs ≡ f .size → f .good bs ≡ f .size → accepts f bs ≡ true
   unfolding accepts
   accepts-yes h k = simp (eq-eqb _ _ h, eq-eqb _ _ k)
+
+  -- the same by a test that goes by names
+  pub accepts-test : {n g : ℕ} {r : Bool} → r ≡ (eqb (length bs) n && eqb g n) → n ≡ f .size → g ≡ f .good bs → r ≡ accepts f bs
+  unfolding accepts
+  accepts-test e p q = e ∙ rw (p, q)
 
   pub accepts-whole : accepts f bs ≡ true → (length bs ≡ f .size) × (f .good bs ≡ f .size)
   unfolding accepts

@@ -20,32 +20,32 @@ pub record Reading {A : Type 0} (one : List ℕ → A) (w : ℕ) (s : List ℕ) 
   pub there : p + (n - i) * w ≤ length s
   pub list : take i dst ++ manyGet one w (n - i) (drop p s) ≡ manyGet one w n (drop at s)
 
-module _ {A : Type 0} (one : List ℕ → A) (w : ℕ) (s : List ℕ) (at n : ℕ) where
-  pub reading-starts : (dst : List A) → length dst ≡ n → at + n * w ≤ length s → Reading one w s at n dst at 0
-  reading-starts dst e h =
+module _ {A : Type 0} {one : List ℕ → A} {w : ℕ} {s : List ℕ} {at n : ℕ} {dst : List A} where
+  pub reading-starts : length dst ≡ n → at + n * w ≤ length s → Reading one w s at n dst at 0
+  reading-starts e h =
       let z : n - 0 ≡ n = omega arith in
       record { within = omega arith; long = e; there = rw z h; list = rw z }
 
+module _ {A : Type 0} {one : List ℕ → A} {w : ℕ} {s : List ℕ} {at n : ℕ} {dst : List A} {p i : ℕ} (r : Reading one w s at n dst p i) where
   -- the next value is there
-  pub reading-there : (dst : List A) (p i : ℕ) → i < n → Reading one w s at n dst p i → p + w + (n - (i + 1)) * w ≤ length s
-  reading-there dst p i h r = omega (arith, room-next n i w h, r .there)
+  pub reading-there : i < n → p + w + (n - (i + 1)) * w ≤ length s
+  reading-there h = omega (arith, room-next n i w h, r .there)
 
-  pub reading-goes : (dst : List A) (p i : ℕ) (v : A) → i < n → Reading one w s at n dst p i → v ≡ one (drop p s) →
-      Reading one w s at n (set dst i v) (p + w) (i + 1)
+  pub reading-goes : i < n → {v : A} → v ≡ one (drop p s) → Reading one w s at n (set dst i v) (p + w) (i + 1)
   unfolding manyGet
-  reading-goes dst p i v h r e =
+  reading-goes h {v} e =
       let k : i < length dst = omega (arith, r .long) in
       let m : n - i ≡ suc (n - suc i) = omega arith in
       record {
         within = omega arith;
         long = length-set dst i v ∙ r .long;
-        there = reading-there dst p i h r;
+        there = reading-there h;
         list = rw (add-one i, take-suc-set dst i v k, e, append-assoc, ← drop-drop w p s) (rw m at (r .list));
       }
 
-  pub reading-ends : (dst : List A) (p i : ℕ) → n ≤ i → Reading one w s at n dst p i → dst ≡ manyGet one w n (drop at s)
+  pub reading-ends : n ≤ i → dst ≡ manyGet one w n (drop at s)
   unfolding manyGet
-  reading-ends dst p i h r =
+  reading-ends h =
       let m : n - i ≡ 0 = omega arith in
       sym (append-nil dst) ∙ rw (m, take-all i dst (omega (arith, r .long))) at (r .list)
 
@@ -70,21 +70,22 @@ pub record Writing {A : Type 0} (one : A → List ℕ) (w : ℕ) (out₀ : List 
   pub room : p + (length src - i) * w ≤ length out₀
   pub list : over out p (manyPut one (drop i src)) ≡ over out₀ at (manyPut one src)
 
-module _ {A : Type 0} (one : A → List ℕ) (w : ℕ) (out₀ : List ℕ) (at : ℕ) (src : List A) where
+module _ {A : Type 0} {one : A → List ℕ} {w : ℕ} {out₀ : List ℕ} {at : ℕ} {src : List A} where
   pub writing-starts : at + length src * w ≤ length out₀ → Writing one w out₀ at src out₀ at 0
   writing-starts h =
       let z : length src - 0 ≡ length src = omega arith in
       record { within = omega arith; long = refl; room = rw z h; list = refl }
 
+module _ {A : Type 0} {one : A → List ℕ} {w : ℕ} {out₀ : List ℕ} {at : ℕ} {src : List A} {out : List ℕ} {p i : ℕ} (r : Writing one w out₀ at src out p i) where
   -- there is room for the next value
-  pub writing-room : (out : List ℕ) (p i : ℕ) → i < length src → Writing one w out₀ at src out p i → p + w + (length src - (i + 1)) * w ≤ length out₀
-  writing-room out p i h r = omega (arith, room-next (length src) i w h, r .room)
+  pub writing-room : i < length src → p + w + (length src - (i + 1)) * w ≤ length out₀
+  writing-room h = omega (arith, room-next (length src) i w h, r .room)
 
-  pub writing-goes : (out next : List ℕ) (p i : ℕ) (z : A) → i < length src → Writing one w out₀ at src out p i →
-      next ≡ over out p (one (getD src i z)) → length (one (getD src i z)) ≡ w → Writing one w out₀ at src next (p + w) (i + 1)
+  pub writing-goes : i < length src → {next : List ℕ} (z : A) → next ≡ over out p (one (getD src i z)) → length (one (getD src i z)) ≡ w →
+      Writing one w out₀ at src next (p + w) (i + 1)
   unfolding manyPut
-  writing-goes out next p i z h r e long =
-      let room : p + w + (length src - (i + 1)) * w ≤ length out₀ = writing-room out p i h r in
+  writing-goes h z e long =
+      let room : p + w + (length src - (i + 1)) * w ≤ length out₀ = writing-room h in
       let same : length out ≡ length out₀ = r .long in
       let v = one (getD src i z) in
       record {
@@ -96,10 +97,9 @@ module _ {A : Type 0} (one : A → List ℕ) (w : ℕ) (out₀ : List ℕ) (at :
             ∙ rw (drop-cons src i z h) at (r .list);
       }
 
-  pub writing-ends : ((a : A) → length (one a) ≡ w) → (out : List ℕ) (p i : ℕ) → length src ≤ i → Writing one w out₀ at src out p i →
-      Wrote out₀ at (manyPut one src) out (at + length src * w)
+  pub writing-ends : ((a : A) → length (one a) ≡ w) → length src ≤ i → Wrote out₀ at (manyPut one src) out (at + length src * w)
   unfolding manyPut
-  writing-ends long out p i h r =
+  writing-ends long h =
       record {
         placed = ap (λ (n : ℕ). at + n) (sym (puts-long one w long src));
         list = sym (over-none out p) ∙ rw (drop-of-length-le src h) at (r .list);

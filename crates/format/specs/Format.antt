@@ -31,8 +31,8 @@ num w lo hi =
     }
 
 -- how far two parts in a row are good: to a where that is short of the first part's n bytes, else b bytes into the second
-unfoldable pub onward : ℕ → ℕ → ℕ → ℕ
-onward a n b = cond (ltb a n) a (n + b)
+unfoldable pub goodAcross : ℕ → ℕ → ℕ → ℕ
+goodAcross a n b = cond (ltb a n) a (n + b)
 
 -- one after the other; the second's limits may hang on the first's value, and each second has the size s
 abbrev pub dep : {A B : Type 0} → Format A → (A → Format B) → ℕ → Format (A × B)
@@ -41,7 +41,7 @@ dep f g s =
       size = f .size + s;
       put = λ t. f .put (t .0) ++ g (t .0) .put (t .1);
       get = λ bs. (f .get bs, g (f .get bs) .get (drop (f .size) bs));
-      good = λ bs. onward (f .good bs) (f .size) (g (f .get bs) .good (drop (f .size) bs));
+      good = λ bs. goodAcross (f .good bs) (f .size) (g (f .get bs) .good (drop (f .size) bs));
       Ok = λ t. f .Ok (t .0) × g (t .0) .Ok (t .1);
     }
 
@@ -59,7 +59,7 @@ manyGet get size (suc n) bs = get bs ∷ manyGet get size n (drop size bs)
 
 unfoldable pub manyGood : (List ℕ → ℕ) → ℕ → ℕ → List ℕ → ℕ
 manyGood good size zero bs = 0
-manyGood good size (suc n) bs = onward (good bs) size (manyGood good size n (drop size bs))
+manyGood good size (suc n) bs = goodAcross (good bs) size (manyGood good size n (drop size bs))
 
 unfoldable pub manyOk : {A : Type 0} → (A → Type 0) → ℕ → List A → Type 0
 manyOk Ok zero [] = Unit
@@ -100,7 +100,14 @@ via to of f = viaOn (λ _. Unit) to of f
 abbrev pub fixed : ℕ → ℕ → Format Unit
 fixed w v = via (λ _. tt) (λ _. v) (num w v v)
 
+-- the largest that a field after a kind byte may be: with kind 0, for nothing, the rest is zero
+unfoldable pub mostAfter : ℕ → ℕ → ℕ
+mostAfter k most = cond (eqb k 0) 0 most
+
 -- a record's head: the body's length in 4 bytes, and its kind in 2
+abbrev pub headBytes : ℕ
+headBytes = 6
+
 abbrev pub head : ℕ → ℕ → Format (Unit {0} × Unit {0})
 head n k = both (fixed 4 n) (fixed 2 k)
 

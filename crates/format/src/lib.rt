@@ -2,3 +2,6 @@
 pub mod check;
 pub mod number;
 pub mod run;
+
+// A record's head: the body's length in 4 bytes, and its kind in 2.
+pub const HEAD_BYTES: usize = 6;

@@ -4,7 +4,7 @@ ghost use Prim.Native.Nat.{_+_, _*_, _≤_, _<_};
 ghost use lib.ListN.{length, drop};
 ghost use Rattle.bits.specs.Bytes.{enc, le};
 ghost use Rattle.bits.specs.Overwrite.{Wrote};
-ghost use Rattle.format.specs.Format.{manyGet, manyPut, head};
+ghost use Rattle.format.specs.Format.{manyGet, manyPut, headBytes, head};
 
 // Reads as many numbers of `w` bytes from `at` as `dst` holds. Internal: they are there.
 pub fn read_words(s: &[u8], at: usize, w: usize, dst: &mut [u32])
@@ -86,8 +86,8 @@ pub fn write_bytes(out: &mut [u8], at: usize, src: &[u8])
 
 // Writes a record's head: the body's length and its kind. Internal: there is room.
 pub fn write_head(out: &mut [u8], at: usize, n: u32, k: u32)
-    requires { ⌜ at + 6 ≤ length (now out) ⌝ }
-    ensures { λ _. ⌜ Wrote (now (out .entry)) at (head n k .put (tt, tt)) (now (out .exit)) (at + 6) ⌝ }
+    requires { ⌜ at + headBytes ≤ length (now out) ⌝ }
+    ensures { λ _. ⌜ Wrote (now (out .entry)) at (head n k .put (tt, tt)) (now (out .exit)) (at + headBytes) ⌝ }
 {
     crate::number::write(out, at, 4, n);
     crate::number::write(out, at + 4, 2, k);

@@ -11,13 +11,12 @@ use Rattle.bits.specs.Overwrite.{over}
 use Rattle.bits.proofs.Choices.{and-left, and-right}
 use Rattle.machine.specs.Machine.{Machine}
 use Rattle.machine.specs.Formed.{sized, formed, wellFormed}
-use Rattle.answers.specs.Answers.{accepted, Call, call}
+use Rattle.machine.specs.Answers.{accepted, Call, call}
 use Rattle.format.specs.Format.{accepts}
 use Rattle.format.proofs.Lawful.{whole-accepts, whole-get, whole-put, whole-ok}
-use Rattle.layout.specs.Image.{image, imageSize}
-use Rattle.layout.proofs.MarkLaws.{mark-at}
-use Rattle.layout.proofs.ImageLaws.{image-lawful, formed-ok, ok-formed}
-use Rattle.image.specs.declared.LoadAnswer.the-variants.{Taken}
+use Rattle.image_layout.specs.Image.{image, imageSize}
+use Rattle.image_layout.proofs.MarkLaws.{mark-at}
+use Rattle.image_layout.proofs.ImageLaws.{image-lawful, formed-ok, ok-formed}
 use Rattle.image.specs.Calls.{saveOf, loadOf}
 use Rattle.image.specs.Promises.{RoundTrips, ImageFacts}
 use Rattle.image.proofs.Answers.{save-written, written-means, judged-taken, taken-means, load-taken, load-answer, load-machine}
@@ -28,7 +27,8 @@ unfolding over
 over-start out bs = rw zero-add
 
 -- what is saved of a well-formed machine
-saved : (m : Machine) (out : List ℕ) → wellFormed m ≡ true → imageSize ≤ length out → saveOf m out ≡ call (accepted tt) (image .put m ++ drop imageSize out)
+saved : (m : Machine) (out : List ℕ) → wellFormed m ≡ true → imageSize ≤ length out →
+    saveOf m out ≡ call (accepted tt) (image .put m ++ drop imageSize out)
 saved m out h room =
     let long : length (image .put m) ≡ imageSize = image-lawful .long m (formed-ok m h) in
     sym (save-written m out (and-left (sized m) (formed m) h) (and-right (sized m) (formed m) h) room)
@@ -42,10 +42,11 @@ loads-back m old out h s room =
     let there : take imageSize (saveOf m out .after) ≡ bs =
     ap (λ (r : Call (List ℕ)). take imageSize (r .after)) (saved m out h room) ∙ take-at bs (drop imageSize out) imageSize (image-lawful .long m ok) in
     ap (λ (b : List ℕ). loadOf b old) there
-    ∙ sym (load-taken bs old Taken (judged-taken (sized old) bs s (whole-accepts image image-lawful m ok)) m refl (sym (whole-get image image-lawful m ok)))
+    ∙ sym (load-taken bs old (judged-taken (sized old) bs s (whole-accepts image image-lawful m ok)) refl (sym (whole-get image image-lawful m ok)))
 
 -- what is known where an image is taken: the bytes are accepted, and their machine comes back
-taken : (bs : List ℕ) (old : Machine) → loadOf bs old .answer ≡ accepted tt → (accepts image bs ≡ true) × (loadOf bs old .after ≡ image .get bs)
+taken : (bs : List ℕ) (old : Machine) → loadOf bs old .answer ≡ accepted tt →
+    (accepts image bs ≡ true) × (loadOf bs old .after ≡ image .get bs)
 taken bs old e =
     let fine = sym (load-answer bs old) ∙ e in
     (taken-means (sized old) bs fine .1, load-machine bs old fine)
@@ -60,10 +61,17 @@ saves-back : (bs : List ℕ) (old : Machine) (out : List ℕ) → Bytes bs → l
 saves-back bs old out b e room =
     let t = taken bs old e in
     saved (loadOf bs old .after) out (formed-after bs old b e) room
-    ∙ ap (λ (l : List ℕ). call (accepted tt) (l ++ drop imageSize out)) (ap (image .put) (t .1) ∙ whole-put image image-lawful bs b (t .0))
+    ∙ ap (λ (l : List ℕ). call (accepted tt) (l ++ drop imageSize out))
+    (ap (image .put) (t .1) ∙ whole-put image image-lawful bs b (t .0))
 
 pub round-trips : RoundTrips
-round-trips = record { loads-back = loads-back; saves-back = saves-back; saves = λ m out room. (λ h. saved m out h room, written-means m out); formed = formed-after }
+round-trips =
+    record {
+      loads-back = loads-back;
+      saves-back = saves-back;
+      saves = λ m out room. (λ h. saved m out h room, written-means m out);
+      formed = formed-after;
+    }
 
 pub image-facts : ImageFacts
 image-facts = record { size = refl; savable = λ m. (formed-ok m, ok-formed m); mark-place = mark-at }

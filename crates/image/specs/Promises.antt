@@ -9,9 +9,9 @@ use Rattle.bits.specs.Field.{flag}
 use Rattle.bits.specs.Bytes.{Bytes}
 use Rattle.machine.specs.Machine.{Machine}
 use Rattle.machine.specs.Formed.{sized, wellFormed}
-use Rattle.answers.specs.Answers.{accepted, call}
-use Rattle.layout.specs.Marks.{marksFormat}
-use Rattle.layout.specs.Image.{image, imageSize}
+use Rattle.machine.specs.Answers.{accepted, call}
+use Rattle.image_layout.specs.Marks.{marksFormat}
+use Rattle.image_layout.specs.Image.{image, imageSize}
 use Rattle.image.specs.Calls.{saveOf, loadOf}
 
 pub record RoundTrips : Type 0 where

@@ -1,25 +1,27 @@
 // Saved images (document 01, "Saved image"): save, load, and what the two promise together.
 ghost use mathlib.Core.Path.{_≡_};
-ghost use Rattle.machine.specs.Machine.{machine, stores};
-ghost use Rattle.image.specs.Calls.{toldLoad, saving, saveOf, loading, loadCheck, loadOf};
+ghost use Rattle.machine.specs.Machine.{machine};
+ghost use Rattle.image.specs.Calls.{toldLoad, saveCall, saveOf, loadCall, loadCheck, loadOf};
 ghost use Rattle.image.specs.Promises.{ImageFacts, RoundTrips};
 
 mod whole;
 
-use layout::IMAGE_BYTES;
+use image_layout::CONFIG_KIND;
+use image_layout::IMAGE_BYTES;
 use machine::control::Control;
 use machine::refusal::Refusal;
+use machine::sizes::CONFIG_WORDS;
 
 // What comes of saving.
 pub enum Saved {
     Written,
-    NotSaved(Refusal),
+    Refused(Refusal),
 }
 
 // What comes of loading.
 pub enum LoadAnswer {
     Taken,
-    NotLoaded(Refusal),
+    Refused(Refusal),
 }
 
 // The answer, and the control part: the image's, or the one handed in.
@@ -40,16 +42,16 @@ pub fn save(
     src_b: &[u32],
     out: &mut [u8],
 ) -> Saved
-    ensures { λ r. ⌜ saving r (now (out .exit)) ≡ saveOf (machine control (now (settings .entry)) (stores (now (gprs .entry)) (now (config .entry)) (now (dest .entry)) (now (marks .entry)) (now («src_a» .entry)) (now («src_b» .entry)))) (now (out .entry)) ⌝ }
+    ensures { λ r. ⌜ saveCall r (now (out .exit)) ≡ saveOf (machine control (now (settings .entry)) (now (gprs .entry)) (now (config .entry)) (now (dest .entry)) (now (marks .entry)) (now («src_a» .entry)) (now («src_b» .entry))) (now (out .entry)) ⌝ }
 {
-    if !formed::machine_sized(control, settings, gprs, config, dest, marks, src_a, src_b) {
-        return Saved::NotSaved(Refusal::BadLength);
+    if !machine_formed::machine_sized(control, settings, gprs, config, dest, marks, src_a, src_b) {
+        return Saved::Refused(Refusal::BadLength);
     }
-    if !formed::machine_formed(control, settings, gprs, config, dest, marks, src_a, src_b) {
-        return Saved::NotSaved(Refusal::Malformed);
+    if !machine_formed::machine_formed(control, settings, gprs, config, dest, marks, src_a, src_b) {
+        return Saved::Refused(Refusal::Malformed);
     }
     if out.len() < IMAGE_BYTES {
-        return Saved::NotSaved(Refusal::ShortOutput);
+        return Saved::Refused(Refusal::ShortOutput);
     }
     whole::write_machine(
         out,
@@ -70,14 +72,12 @@ fn judge(fits: bool, bytes: &[u8]) -> LoadAnswer
     ensures { λ r. ⌜ toldLoad r ≡ loadCheck fits (now (bytes .entry)) ⌝ }
 {
     if !fits {
-        return LoadAnswer::NotLoaded(Refusal::BadLength);
+        return LoadAnswer::Refused(Refusal::BadLength);
     }
-    let good = whole::scan(bytes);
-    if bytes.len() != IMAGE_BYTES {
-        return LoadAnswer::NotLoaded(Refusal::BadImage(good));
-    }
-    if good != IMAGE_BYTES {
-        return LoadAnswer::NotLoaded(Refusal::BadImage(good));
+    let scanned = image_scan::scan(bytes, CONFIG_KIND, CONFIG_WORDS);
+    let good = scanned.good;
+    if !scanned.sound {
+        return LoadAnswer::Refused(Refusal::BadImage(good));
     }
     LoadAnswer::Taken
 }
@@ -94,12 +94,21 @@ pub fn load(
     src_a: &mut [u32],
     src_b: &mut [u32],
 ) -> Loaded
-    ensures { λ r. ⌜ loading (r .answer) (machine (r .control) (now (settings .exit)) (stores (now (gprs .exit)) (now (config .exit)) (now (dest .exit)) (now (marks .exit)) (now («src_a» .exit)) (now («src_b» .exit)))) ≡ loadOf (now (bytes .entry)) (machine control (now (settings .entry)) (stores (now (gprs .entry)) (now (config .entry)) (now (dest .entry)) (now (marks .entry)) (now («src_a» .entry)) (now («src_b» .entry)))) ⌝ }
+    ensures { λ r. ⌜ loadCall (r .answer) (machine (r .control) (now (settings .exit)) (now (gprs .exit)) (now (config .exit)) (now (dest .exit)) (now (marks .exit)) (now («src_a» .exit)) (now («src_b» .exit))) ≡ loadOf (now (bytes .entry)) (machine control (now (settings .entry)) (now (gprs .entry)) (now (config .entry)) (now (dest .entry)) (now (marks .entry)) (now («src_a» .entry)) (now («src_b» .entry))) ⌝ }
 {
-    let fits = formed::machine_sized(control, settings, gprs, config, dest, marks, src_a, src_b);
+    let fits = machine_formed::machine_sized(
+        control,
+        settings,
+        gprs,
+        config,
+        dest,
+        marks,
+        src_a,
+        src_b,
+    );
     let answer = judge(fits, bytes);
     match answer {
-        LoadAnswer::NotLoaded(_) => Loaded { answer, control },
+        LoadAnswer::Refused(_) => Loaded { answer, control },
         LoadAnswer::Taken => {
             let loaded = whole::read_machine(
                 bytes,

@@ -2,9 +2,11 @@
 ghost use mathlib.Core.Path.{_≡_};
 ghost use Prim.Native.Nat.{_+_, _*_, _≤_};
 ghost use lib.ListN.{length, drop};
+ghost use Rattle.machine.specs.Sizes.{markCount};
 ghost use Rattle.bits.specs.Overwrite.{over, Wrote};
-ghost use Rattle.layout.specs.Marks.{bit, pack, unpack, marksFormat};
-use layout::MARK_BYTES;
+ghost use Rattle.image_layout.specs.Marks.{bit, pack, unpack, marksFormat};
+ghost use Rattle.image_layout.specs.Image.{marksSize};
+use image_layout::MARK_BYTES;
 
 // A mark as a number.
 fn bit(b: bool) -> u8
@@ -41,10 +43,10 @@ fn unpack(b: u8, marks: &mut [bool], at: usize)
     }
 }
 
-// Writes the marks from `at`. Internal: there is room, and they are 1,024.
+// Writes the marks from `at`. Internal: there is room, and they have their size.
 pub(crate) fn write_marks(out: &mut [u8], at: usize, marks: &[bool])
-    requires { ⌜ (at + 128 ≤ length (now out)) × (length (now marks) ≡ 1024) ⌝ }
-    ensures { λ _. ⌜ Wrote (now (out .entry)) at (marksFormat 128 .put (now (marks .entry))) (now (out .exit)) (at + 128) ⌝ }
+    requires { ⌜ (at + marksSize ≤ length (now out)) × (length (now marks) ≡ markCount) ⌝ }
+    ensures { λ _. ⌜ Wrote (now (out .entry)) at (marksFormat marksSize .put (now (marks .entry))) (now (out .exit)) (at + marksSize) ⌝ }
 {
     let mut p = at;
     let mut i: usize = 0;
@@ -55,10 +57,10 @@ pub(crate) fn write_marks(out: &mut [u8], at: usize, marks: &[bool])
     }
 }
 
-// Reads the marks from `at`. Internal: their bytes are there, and they are 1,024.
+// Reads the marks from `at`. Internal: their bytes are there, and they have their size.
 pub(crate) fn read_marks(s: &[u8], at: usize, marks: &mut [bool])
-    requires { ⌜ (at + 128 ≤ length (now s)) × (length (now marks) ≡ 1024) ⌝ }
-    ensures { λ _. ⌜ now (marks .exit) ≡ marksFormat 128 .get (drop at (now (s .entry))) ⌝ }
+    requires { ⌜ (at + marksSize ≤ length (now s)) × (length (now marks) ≡ markCount) ⌝ }
+    ensures { λ _. ⌜ now (marks .exit) ≡ marksFormat marksSize .get (drop at (now (s .entry))) ⌝ }
 {
     let mut i: usize = 0;
     while i < MARK_BYTES {

@@ -1,5 +1,6 @@
 pub mod Semaphores
 pub mod ControlFacts
-pub mod SizedFacts
+pub mod StoreFacts
 pub mod FreshLaws
 pub mod Refusals
+pub mod Checks

@@ -9,23 +9,23 @@ use Rattle.machine.specs.declared.control.Wait.{Wait}
 use Rattle.machine.specs.declared.control.Wait.the-variants.{Clear, OnStall, OnSemaphore}
 use Rattle.machine.specs.declared.control.Semaphore.{Semaphore}
 use Rattle.machine.specs.declared.control.Control.{Control}
-use Rattle.machine.specs.Sizes.{mutexCount, semaphoreCount, bankCount, pointerCount, gprCount, settingCount, configCount, destCount, markCount, sourceCount, halfMost, cellMost, wordMost}
+use Rattle.machine.specs.Sizes.{mutexCount, semaphoreCount, bankCount, pointerCount, gprCount, settingCount, configCount, destCount, markCount, sourceCount, halfMost, cellMost, wordMost, holderMost, semaphoreMost, blockMost, conditionsMost, maskMost, conditionMost}
 use Rattle.machine.specs.Machine.{Machine, Stores}
 
 -- block is bits 15–23, conditions 0–14, mask 2–9, condition 0–1 of the word that set it
 abbrev pub waitFormed : Wait → Bool
 waitFormed Clear = true
-waitFormed (OnStall block conditions) = leb block 511 && leb conditions 32767
-waitFormed (OnSemaphore block mask condition) = leb block 511 && (leb mask 255 && leb condition 3)
+waitFormed (OnStall block conditions) = leb block blockMost && leb conditions conditionsMost
+waitFormed (OnSemaphore block mask condition) = leb block blockMost && (leb mask maskMost && leb condition conditionMost)
 
 -- value and maximum are 0 to 15
 unfoldable pub semaphoresFormed : List Semaphore → Bool
 semaphoresFormed [] = true
-semaphoresFormed (s ∷ l) = (leb (s .value) 15 && leb (s .maximum) 15) && semaphoresFormed l
+semaphoresFormed (s ∷ l) = (leb (s .value) semaphoreMost && leb (s .maximum) semaphoreMost) && semaphoresFormed l
 
 -- 8 mutexes, free (0) or held by one thread (1 to 3)
 abbrev pub mutexesFormed : Control → Bool
-mutexesFormed c = eqb (length (c .mutexes)) mutexCount && allAtMost 3 (c .mutexes)
+mutexesFormed c = eqb (length (c .mutexes)) mutexCount && allAtMost holderMost (c .mutexes)
 
 -- 4 owners, Unpackers (0) or Matrix (1), and 4 pointers, 0 or 1
 abbrev pub banksFormed : Control → Bool
@@ -45,8 +45,8 @@ unfoldable pub storesSized : Stores → Bool
 storesSized k =
     eqb (length (k .gprs)) gprCount
     && (eqb (length (k .config)) configCount
-    && (eqb (length (k .dest)) destCount
-    && (eqb (length (k .marks)) markCount
+    && (eqb (length (k .dest .cells)) destCount
+    && (eqb (length (k .dest .marks)) markCount
     && (eqb (length (k .srcA)) sourceCount && eqb (length (k .srcB)) sourceCount))))
 
 abbrev pub sized : Machine → Bool
@@ -56,7 +56,7 @@ sized m = eqb (length (m .settings)) settingCount && storesSized (m .kept)
 unfoldable pub storesFormed : Stores → Bool
 storesFormed k =
     (allAtMost wordMost (k .gprs) && allAtMost wordMost (k .config))
-    && (allAtMost halfMost (k .dest) && (allAtMost cellMost (k .srcA) && allAtMost cellMost (k .srcB)))
+    && (allAtMost halfMost (k .dest .cells) && (allAtMost cellMost (k .srcA) && allAtMost cellMost (k .srcB)))
 
 -- each number is in its range: 10 where one is not
 abbrev pub formed : Machine → Bool

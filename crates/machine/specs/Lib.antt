@@ -1,7 +1,10 @@
 pub mod Sizes
 pub mod Numbers
 pub mod Units
+pub mod Places
 pub mod Control
 pub mod Machine
 pub mod Formed
 pub mod Fresh
+pub mod Answers
+pub mod Outcomes

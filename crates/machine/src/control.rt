@@ -1,11 +1,12 @@
 // The control part: all that decides whether a word passes. It goes in by value and comes back by value.
 ghost use mathlib.Core.Path.{_≡_};
 ghost use Prim.Native.Nat.{_<_};
+ghost use Rattle.machine.specs.Sizes.{threadCount};
 ghost use Rattle.machine.specs.Control.{threadAt, withThread};
+use crate::sizes::BANK_OWNERS;
 use crate::sizes::BANK_POINTERS;
 use crate::sizes::MUTEXES;
 use crate::sizes::SEMAPHORES;
-use crate::sizes::SOURCE_BANKS;
 
 // A thread's wait: none, a stall wait, or a semaphore wait. The masks are the fields of STALLWAIT and SEMWAIT.
 pub enum Wait {
@@ -32,14 +33,14 @@ pub struct Control {
     pub mutexes: [u8; MUTEXES],
     pub semaphores: [Semaphore; SEMAPHORES],
     // of banks A0, A1, B0, B1: 0 is Unpackers, 1 is Matrix
-    pub owners: [u8; SOURCE_BANKS],
+    pub owners: [u8; BANK_OWNERS],
     // matrix A, matrix B, unpack A, unpack B: the bank, 0 or 1
     pub pointers: [u8; BANK_POINTERS],
 }
 
 // A thread's part. Internal: the thread is in range.
 pub fn thread_of(c: Control, t: usize) -> Thread
-    requires { ⌜ t < 3 ⌝ }
+    requires { ⌜ t < threadCount ⌝ }
     ensures { λ r. ⌜ r ≡ threadAt c t ⌝ }
 {
     if t == 0 {
@@ -53,7 +54,7 @@ pub fn thread_of(c: Control, t: usize) -> Thread
 
 // The control part with a thread's part replaced. Internal: the thread is in range.
 pub fn with_thread(c: Control, t: usize, x: Thread) -> Control
-    requires { ⌜ t < 3 ⌝ }
+    requires { ⌜ t < threadCount ⌝ }
     ensures { λ r. ⌜ r ≡ withThread c t x ⌝ }
 {
     let mut d = c;

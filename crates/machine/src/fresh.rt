@@ -8,6 +8,7 @@ use crate::control::Control;
 use crate::control::Semaphore;
 use crate::control::Thread;
 use crate::control::Wait;
+use crate::sizes::BANK_OWNERS;
 use crate::sizes::BANK_POINTERS;
 use crate::sizes::CONFIG_WORDS;
 use crate::sizes::DEST_CELLS;
@@ -16,7 +17,6 @@ use crate::sizes::GPRS;
 use crate::sizes::MUTEXES;
 use crate::sizes::SEMAPHORES;
 use crate::sizes::SETTINGS;
-use crate::sizes::SOURCE_BANKS;
 use crate::sizes::SOURCE_CELLS;
 
 // A whole machine by value; the entries take its stores lent.
@@ -44,7 +44,7 @@ fn fresh_control() -> Control
             value: 0,
             maximum: 0,
         }; SEMAPHORES],
-        owners: [0; SOURCE_BANKS],
+        owners: [0; BANK_OWNERS],
         pointers: [0; BANK_POINTERS],
     }
 }

@@ -1,6 +1,7 @@
 // Numbers that must not be mixed up: each unit is a type of its own.
 ghost use mathlib.Core.Path.{_≡_};
 ghost use Prim.Native.Nat.{_<_};
+ghost use Rattle.machine.specs.Sizes.{threadCount, threadGprs};
 ghost use Rattle.machine.specs.Units.{gprOfHalf, isHighHalf, gprPlace};
 use crate::sizes::THREAD_GPRS;
 
@@ -28,7 +29,7 @@ impl HalfRegister {
 
 // Where thread t's GPR stands among the 192. Internal: both numbers are in range.
 pub fn gpr_place(t: usize, g: GprNumber) -> usize
-    requires { ⌜ (t < 3) × (g .0 < 64) ⌝ }
+    requires { ⌜ (t < threadCount) × (g .0 < threadGprs) ⌝ }
     ensures { λ r. ⌜ r ≡ gprPlace t g ⌝ }
 {
     t * THREAD_GPRS + g.0 as usize
@@ -36,7 +37,7 @@ pub fn gpr_place(t: usize, g: GprNumber) -> usize
 
 // Where the GPR stands that a half register is of. Internal: both numbers are in range.
 pub fn half_place(t: usize, h: HalfRegister) -> usize
-    requires { ⌜ (t < 3) × (h .0 < 128) ⌝ }
+    requires { ⌜ (t < threadCount) × (h .0 < 128) ⌝ }
     ensures { λ r. ⌜ r ≡ gprPlace t (gprOfHalf h) ⌝ }
 {
     gpr_place(t, h.gpr())

@@ -1,20 +1,22 @@
 // The turns of a run, one after another.
 ghost use mathlib.Core.Path.{_≡_};
-ghost use Rattle.machine.specs.Machine.{machine, stores};
-ghost use Rattle.turns.specs.Streams.{streams};
-ghost use Rattle.turns.specs.Ending.{toldEnding};
-ghost use Rattle.run_rules.specs.Ready.{Ready};
+ghost use mathlib.Core.List.{List};
+ghost use Prim.Native.Nat.{ℕ};
+ghost use Rattle.machine.specs.Machine.{machine};
+ghost use Rattle.run_order.specs.Streams.{streams};
+ghost use Rattle.run_order.specs.Ending.{toldEnding};
+ghost use Rattle.run_rules.specs.Ready.{ReadyApart};
 ghost use Rattle.run_rules.specs.Run.{runFrom, summaryOf, summary};
 ghost use Rattle.run.specs.Ran.{ran};
 use crate::Ran;
-use crate::turn::turn;
 use machine::control::Control;
-use turns::cursor::Cursor;
-use turns::ending::Ending;
-use turns::ending::Halt;
-use turns::ending::halted;
-use turns::ending::quiet_after;
-use turns::ending::refused_word;
+use run_order::cursor::Cursor;
+use run_order::ending::Ending;
+use run_order::ending::Halt;
+use run_order::ending::halted;
+use run_order::ending::quiet_after;
+use run_order::ending::refused_word;
+use run_turn::turn;
 
 // The run, where it ends.
 fn ended(answer: Ending, turns: u32, control: Control, cursor: Cursor) -> Ran
@@ -28,13 +30,12 @@ fn ended(answer: Ending, turns: u32, control: Control, cursor: Cursor) -> Ran
     }
 }
 
-// Takes turns until the run ends. Internal: the call was not refused.
+// Takes turns until the run ends, whatever cells Dest has. Internal: the call was not refused.
 pub(crate) fn take_turns(
     control: Control,
     settings: &mut [u16],
     gprs: &mut [u32],
     config: &mut [u32],
-    dest: &[u16],
     marks: &mut [bool],
     src_a: &mut [u32],
     src_b: &mut [u32],
@@ -44,8 +45,8 @@ pub(crate) fn take_turns(
     cursor: Cursor,
     budget: u32,
 ) -> Ran
-    requires { ⌜ Ready (streams (now s0) (now s1) (now s2)) (machine control (now settings) (stores (now gprs) (now config) (now dest) (now marks) (now «src_a») (now «src_b»))) cursor ⌝ }
-    ensures { λ r. ⌜ summary (toldEnding (r .answer)) (r .turns) (machine (r .control) (now (settings .exit)) (stores (now (gprs .exit)) (now (config .exit)) (now (dest .entry)) (now (marks .exit)) (now («src_a» .exit)) (now («src_b» .exit)))) (r .cursor) ≡ summaryOf (runFrom budget (streams (now (s0 .entry)) (now (s1 .entry)) (now (s2 .entry))) 0 (machine control (now (settings .entry)) (stores (now (gprs .entry)) (now (config .entry)) (now (dest .entry)) (now (marks .entry)) (now («src_a» .entry)) (now («src_b» .entry)))) cursor) ⌝ }
+    requires { ⌜ ReadyApart (streams (now s0) (now s1) (now s2)) (λ cells. machine control (now settings) (now gprs) (now config) cells (now marks) (now «src_a») (now «src_b»)) cursor ⌝ }
+    ensures { λ r. ⌜ ((cells : List ℕ) → summary (toldEnding (r .answer)) (r .turns) (machine (r .control) (now (settings .exit)) (now (gprs .exit)) (now (config .exit)) cells (now (marks .exit)) (now («src_a» .exit)) (now («src_b» .exit))) (r .cursor) ≡ summaryOf (runFrom budget (streams (now (s0 .entry)) (now (s1 .entry)) (now (s2 .entry))) 0 (machine control (now (settings .entry)) (now (gprs .entry)) (now (config .entry)) cells (now (marks .entry)) (now («src_a» .entry)) (now («src_b» .entry))) cursor)) ⌝ }
 {
     let mut k = control;
     let mut c = cursor;
@@ -61,7 +62,6 @@ pub(crate) fn take_turns(
             settings,
             gprs,
             config,
-            dest,
             marks,
             src_a,
             src_b,

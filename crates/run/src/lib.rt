@@ -1,18 +1,18 @@
 // Three streams of words on one machine: a cursor, a budget of turns, and how it ends (document 01, "A run").
+mod checks;
 mod course;
-mod turn;
 
 ghost use mathlib.Core.Path.{_≡_};
-ghost use Rattle.machine.specs.Machine.{machine, stores};
-ghost use Rattle.turns.specs.Streams.{streams};
-ghost use Rattle.turns.specs.Ending.{toldEnding};
+ghost use Rattle.machine.specs.Machine.{machine};
+ghost use Rattle.run_order.specs.Streams.{streams};
+ghost use Rattle.run_order.specs.Ending.{toldEnding};
 ghost use Rattle.run_rules.specs.Run.{runOf, summaryOf, summary};
+use crate::checks::check_call;
 use crate::course::take_turns;
-use answers::Access;
+use machine::access::Access;
 use machine::control::Control;
-use run_checks::check_call;
-use turns::cursor::Cursor;
-use turns::ending::Ending;
+use run_order::cursor::Cursor;
+use run_order::ending::Ending;
 
 // How a run ended, the turns it took, and the control part and cursor that it leaves. The rest of the machine is written
 // where it is lent.
@@ -39,7 +39,7 @@ pub fn run(
     cursor: Cursor,
     budget: u32,
 ) -> Ran
-    ensures { λ r. ⌜ summary (toldEnding (r .answer)) (r .turns) (machine (r .control) (now (settings .exit)) (stores (now (gprs .exit)) (now (config .exit)) (now (dest .entry)) (now (marks .exit)) (now («src_a» .exit)) (now («src_b» .exit)))) (r .cursor) ≡ summaryOf (runOf (streams (now (s0 .entry)) (now (s1 .entry)) (now (s2 .entry))) (machine control (now (settings .entry)) (stores (now (gprs .entry)) (now (config .entry)) (now (dest .entry)) (now (marks .entry)) (now («src_a» .entry)) (now («src_b» .entry)))) cursor budget) ⌝ }
+    ensures { λ r. ⌜ summary (toldEnding (r .answer)) (r .turns) (machine (r .control) (now (settings .exit)) (now (gprs .exit)) (now (config .exit)) (now (dest .entry)) (now (marks .exit)) (now («src_a» .exit)) (now («src_b» .exit))) (r .cursor) ≡ summaryOf (runOf (streams (now (s0 .entry)) (now (s1 .entry)) (now (s2 .entry))) (machine control (now (settings .entry)) (now (gprs .entry)) (now (config .entry)) (now (dest .entry)) (now (marks .entry)) (now («src_a» .entry)) (now («src_b» .entry))) cursor budget) ⌝ }
 {
     let k = check_call(
         control,
@@ -57,7 +57,7 @@ pub fn run(
         budget,
     );
     match k {
-        Access::Denied(r) => Ran {
+        Access::Refused(r) => Ran {
             answer: Ending::CallRefused(r),
             turns: 0,
             control,
@@ -68,7 +68,6 @@ pub fn run(
             settings,
             gprs,
             config,
-            dest,
             marks,
             src_a,
             src_b,

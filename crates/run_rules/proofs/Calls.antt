@@ -11,18 +11,18 @@ use Rattle.machine.specs.declared.refusal.Refusal.{Refusal}
 use Rattle.machine.specs.Sizes.{streamMost, budgetMost}
 use Rattle.machine.specs.Machine.{Machine}
 use Rattle.machine.specs.Formed.{sized, formed}
-use Rattle.answers.specs.declared.Access.{Access}
-use Rattle.answers.specs.declared.Access.the-variants.{Granted, Denied}
-use Rattle.answers.specs.Answers.{Told, accepted, refusal, told, provided}
-use Rattle.turns.specs.declared.cursor.Cursor.{Cursor}
-use Rattle.turns.specs.Streams.{Streams}
-use Rattle.turns.specs.Ending.{goesOn}
+use Rattle.machine.specs.declared.access.Access.{Access}
+use Rattle.machine.specs.declared.access.Access.the-variants.{Granted, Refused}
+use Rattle.machine.specs.Answers.{Told, accepted, refusal, told, provided}
+use Rattle.run_order.specs.declared.cursor.Cursor.{Cursor}
+use Rattle.run_order.specs.Streams.{Streams}
+use Rattle.run_order.specs.Ending.{goesOn}
 use Rattle.run_rules.specs.Checks.{streamsSized, placed, callCheck, callHalt}
 use Rattle.run_rules.specs.Ready.{Lengths, Within, Ready}
 use Rattle.run_rules.specs.Run.{stop, runFrom, runOf}
 
 module _ (s : Streams) (m : Machine) (c : Cursor) (budget : ℕ) (k : Access) (ek : told k ≡ callCheck s m c budget) where
-  pub call-refused : (r : Refusal) → k ≡ Denied r → stop (refusal r) m c ≡ runOf s m c budget
+  pub call-refused : (r : Refusal) → k ≡ Refused r → stop (refusal r) m c ≡ runOf s m c budget
   unfolding runOf
   call-refused r e = rw (← ek, e)
 

@@ -11,18 +11,18 @@ use borrow.Author.Tests.{leb-true, leb-false}
 use Rattle.machine.specs.Sizes.{budgetMost}
 use Rattle.machine.specs.Machine.{Machine}
 use Rattle.machine.specs.Formed.{sized, formed}
-use Rattle.answers.specs.Answers.{Told, accepted, refused, provided}
-use Rattle.answers.specs.Outcomes.{Progress, idle, passed, stalled}
-use Rattle.offers.specs.Offer.{hasPassed}
-use Rattle.word_rules.proofs.Refusing.{TwoOrThree}
+use Rattle.machine.specs.Answers.{Told, accepted, refused, provided}
+use Rattle.machine.specs.Outcomes.{Progress, idle, passed, stalled}
+use Rattle.machine.specs.Outcomes.{hasPassed}
+use Rattle.word_rules.proofs.Saying.{TwoOrThree}
 use Rattle.step_rules.specs.Step.{offerOf}
 use Rattle.step_rules.proofs.Refusing.{offer-refuses}
-use Rattle.turns.specs.declared.cursor.Cursor.{Cursor}
-use Rattle.turns.specs.declared.streams.Offered.{Offered}
-use Rattle.turns.specs.declared.streams.Offered.the-variants.{NextWord, NoWord}
-use Rattle.turns.specs.Cursor.{movedOf}
-use Rattle.turns.specs.Ending.{RunEnd, finished, stuck, budgetUsed, wordRefused, Halted, halts, goesOn, haltOf, refusedWord, quietAfter}
-use Rattle.turns.specs.Streams.{Streams, usedUp, nextWord}
+use Rattle.run_order.specs.declared.cursor.Cursor.{Cursor}
+use Rattle.run_order.specs.declared.streams.Offered.{Offered}
+use Rattle.run_order.specs.declared.streams.Offered.the-variants.{NextWord, NoWord}
+use Rattle.run_order.specs.Cursor.{movedOf}
+use Rattle.run_order.specs.Ending.{RunEnd, finished, stuck, budgetUsed, wordRefused, Halted, halts, goesOn, haltOf, refusedWord, quietAfter}
+use Rattle.run_order.specs.Streams.{Streams, usedUp, nextWord}
 use Rattle.run_rules.specs.Turn.{Turn, byWord, turnOf}
 use Rattle.run_rules.specs.Checks.{streamsSized, placed, callCheck, callHalt}
 use Rattle.run_rules.specs.Run.{Run, stop, before, unless, runFrom, runOf}

@@ -1,24 +1,25 @@
 -- The loop of a run against its definition: what holds before each turn, and what each way on or out makes of it.
 use Prim.Native.Nat.{ℕ, suc, _+_, _-_, _<_, _≤_}
-use mathlib.Core.Path.{_≡_, sym, ap, _∙_}
+use mathlib.Core.Path.{_≡_, sym, ap, subst, _∙_}
+use mathlib.Core.List.{List}
 use native.Mathlib.Nat.{add-zero, zero-add, sub-zero}
 use native.Mathlib.Omega.{arith}
 use lib.ListN.{length}
-use Rattle.bits.proofs.Choices.{and-left}
 use Rattle.machine.specs.Machine.{Machine}
-use Rattle.machine.specs.Formed.{sized, formed}
-use Rattle.machine.proofs.SizedFacts.{SizedFacts, sized-facts}
-use Rattle.turns.specs.declared.cursor.Cursor.{Cursor}
-use Rattle.turns.specs.declared.ending.Ending.{Ending}
-use Rattle.turns.specs.declared.ending.Halt.{Halt}
-use Rattle.turns.specs.declared.ending.Halt.the-variants.{Ends, GoesOn}
-use Rattle.turns.specs.Streams.{Streams}
-use Rattle.run_rules.specs.Turn.{Turn, turnOf}
-use Rattle.turns.specs.Ending.{haltOf, refusedWord, quietAfter, goesOn, toldEnding, toldHalt}
+use Rattle.machine.specs.Answers.{Told}
+use Rattle.machine.specs.Outcomes.{Progress}
+use Rattle.machine.proofs.StoreFacts.{SizedFacts}
+use Rattle.run_order.specs.declared.cursor.Cursor.{Cursor}
+use Rattle.run_order.specs.declared.ending.Ending.{Ending}
+use Rattle.run_order.specs.declared.ending.Halt.{Halt}
+use Rattle.run_order.specs.declared.ending.Halt.the-variants.{Ends, GoesOn}
+use Rattle.run_order.specs.Streams.{Streams}
+use Rattle.run_rules.specs.Turn.{Turn, turned, turnOf}
+use Rattle.run_order.specs.Ending.{haltOf, refusedWord, quietAfter, goesOn, toldEnding, toldHalt}
 use Rattle.run_rules.specs.Run.{Run, before, runFrom, Summary, summary, summaryOf}
-use Rattle.run_rules.specs.Ready.{Ready}
+use Rattle.run_rules.specs.Ready.{Ready, ReadyApart}
 use Rattle.run_rules.proofs.Halting.{due-after, run-halts, run-refused, run-on}
-use Rattle.run_rules.proofs.Turning.{turn-ready}
+use Rattle.run_rules.proofs.Turning.{turn-ready, ready-parts}
 
 -- what comes back of a run, where `turns` turns went before it
 abbrev pub later : ℕ → Summary → Summary
@@ -29,57 +30,54 @@ later-turn n t r =
     let e : n + suc (length (r .turns)) ≡ n + 1 + length (r .turns) = omega arith in
     rw e
 
--- from m₀ and c₀, with the whole budget, to m and c: the run that is left makes the whole run's answer
-pub record Going (s : Streams) (budget : ℕ) (m₀ : Machine) (c₀ : Cursor) (m : Machine) (c : Cursor) (quiet turns : ℕ) : Type 0 where
-  pub ready : Ready s m c
-  pub sizes₀ : SizedFacts (m₀ .settings) (m₀ .kept)
-  pub sizes : SizedFacts (m .settings) (m .kept)
+-- from m₀ and c₀, with the whole budget, to m and c: the run that is left makes the whole run's answer, whatever cells Dest has; and with
+-- some cells the machine is ready for the next turn
+pub record Going (s : Streams) (budget : ℕ) (m₀ : List ℕ → Machine) (c₀ : Cursor) (m : List ℕ → Machine) (c : Cursor) (quiet turns : ℕ) : Type 0 where
+  pub cells : List ℕ
+  pub ready : Ready s (m cells) c
+  pub sizes₀ : SizedFacts (m₀ cells .settings) (m₀ cells .kept)
+  pub sizes : SizedFacts (m cells .settings) (m cells .kept)
   pub within : turns ≤ budget
-  pub whole : summaryOf (runFrom budget s 0 m₀ c₀) ≡ later turns (summaryOf (runFrom (budget - turns) s quiet m c))
+  pub whole : (d : List ℕ) → summaryOf (runFrom budget s 0 (m₀ d) c₀) ≡ later turns (summaryOf (runFrom (budget - turns) s quiet (m d) c))
 
-ready-sizes : (s : Streams) (m : Machine) (c : Cursor) → Ready s m c → SizedFacts (m .settings) (m .kept)
-ready-sizes s m c r = sized-facts m (and-left (sized m) (formed m) (r .whole))
-
-pub going-start : (s : Streams) (budget : ℕ) (m : Machine) (c : Cursor) → Ready s m c → Going s budget m c m c 0 0
+pub going-start : (s : Streams) (budget : ℕ) (m : List ℕ → Machine) (c : Cursor) → ReadyApart s m c → Going s budget m c m c 0 0
 going-start s budget m c r =
-    record {
-      ready = r;
-      sizes₀ = ready-sizes s m c r;
-      sizes = ready-sizes s m c r;
-      within = omega arith;
-      whole = rw (sub-zero, zero-add);
-    }
+    let sizes = ready-parts s (m (r .cells)) c (r .ready) .sizes in
+    record { cells = r .cells; ready = r .ready; sizes₀ = sizes; sizes = sizes; within = omega arith; whole = λ d. rw (sub-zero, zero-add) }
 
 one-less : (budget turns : ℕ) → 0 < budget - turns → budget - turns ≡ suc (budget - (turns + 1))
 one-less budget turns h = omega arith
 
-module _ (s : Streams) (budget : ℕ) (m₀ : Machine) (c₀ : Cursor) (m : Machine) (c : Cursor) (quiet turns : ℕ) (g : Going s budget m₀ c₀ m c quiet turns) (h : Halt) (eh : toldHalt h ≡ haltOf s c quiet (budget - turns)) where
-  pub going-ends : (a : Ending) → h ≡ Ends a → summary (toldEnding a) turns m c ≡ summaryOf (runFrom budget s 0 m₀ c₀)
-  going-ends a e = rw (g .whole, run-halts s quiet m c (budget - turns) (toldEnding a) (sym eh ∙ ap toldHalt e), add-zero)
+module _ (s : Streams) (budget : ℕ) (m₀ : List ℕ → Machine) (c₀ : Cursor) (m : List ℕ → Machine) (c : Cursor) (quiet turns : ℕ) (g : Going s budget m₀ c₀ m c quiet turns) (h : Halt) (eh : toldHalt h ≡ haltOf s c quiet (budget - turns)) where
+  pub going-ends : (a : Ending) → h ≡ Ends a → (d : List ℕ) → summary (toldEnding a) turns (m d) c ≡ summaryOf (runFrom budget s 0 (m₀ d) c₀)
+  going-ends a e d = rw (g .whole d, run-halts s quiet (m d) c (budget - turns) (toldEnding a) (sym eh ∙ ap toldHalt e), add-zero)
 
-  module _ (on : h ≡ GoesOn) (t : Turn) (et : t ≡ turnOf s m c) (f : Halt) (ef : toldHalt f ≡ refusedWord (t .outcome)) where
+  -- a turn, alike whatever cells Dest has
+  module _ (on : h ≡ GoesOn) (o : Told Progress) (m' : List ℕ → Machine) (c' : Cursor) (et : (d : List ℕ) → turned o (m' d) c' ≡ turnOf s (m d) c) (f : Halt) (ef : toldHalt f ≡ refusedWord o) where
     some : 0 < budget - turns
     some = due-after s c quiet (budget - turns) h eh on .some
 
     due : haltOf s c quiet (suc (budget - (turns + 1))) ≡ goesOn
     due = rw (← one-less budget turns some) (sym eh ∙ ap toldHalt on)
 
-    word-halt : refusedWord (turnOf s m c .outcome) ≡ toldHalt f
-    word-halt = ap (λ (x : Turn). refusedWord (x .outcome)) (sym et) ∙ sym ef
+    word-halt : (d : List ℕ) → refusedWord (turnOf s (m d) c .outcome) ≡ toldHalt f
+    word-halt d = ap (λ (x : Turn). refusedWord (x .outcome)) (sym (et d)) ∙ sym ef
 
-    pub going-refused : (a : Ending) → f ≡ Ends a → summary (toldEnding a) (turns + 1) (t .after) (t .cursor) ≡ summaryOf (runFrom budget s 0 m₀ c₀)
-    going-refused a e =
-        rw (g .whole, one-less budget turns some, run-refused s quiet m c (budget - (turns + 1)) due (toldEnding a) (word-halt ∙ ap toldHalt e), ← et)
+    pub going-refused : (a : Ending) → f ≡ Ends a → (d : List ℕ) → summary (toldEnding a) (turns + 1) (m' d) c' ≡ summaryOf (runFrom budget s 0 (m₀ d) c₀)
+    going-refused a e d =
+        rw (g .whole d, one-less budget turns some, run-refused s quiet (m d) c (budget - (turns + 1)) due (toldEnding a) (word-halt d ∙ ap toldHalt e), ← et d)
 
-    pub going-on : f ≡ GoesOn → (q : ℕ) → q ≡ quietAfter (t .outcome) quiet → Going s budget m₀ c₀ (t .after) (t .cursor) q (turns + 1)
+    pub going-on : f ≡ GoesOn → (q : ℕ) → q ≡ quietAfter o quiet → Going s budget m₀ c₀ m' c' q (turns + 1)
     going-on e q eq =
-        let r : Ready s (t .after) (t .cursor) = rw et (turn-ready s m c (g .ready)) in
+        let x = g .cells in
+        let r : Ready s (m' x) c' = subst (λ (t : Turn). Ready s (t .after) (t .cursor)) (sym (et x)) (turn-ready s (m x) c (g .ready)) in
         record {
+          cells = x;
           ready = r;
           sizes₀ = g .sizes₀;
-          sizes = ready-sizes s (t .after) (t .cursor) r;
+          sizes = ready-parts s (m' x) c' r .sizes;
           within = omega (arith, some);
-          whole =
-              rw (g .whole, one-less budget turns some, run-on s quiet m c (budget - (turns + 1)) due (word-halt ∙ ap toldHalt e), ← et, ← eq)
-              (later-turn turns t (runFrom (budget - (turns + 1)) s q (t .after) (t .cursor)));
+          whole = λ d.
+              rw (g .whole d, one-less budget turns some, run-on s quiet (m d) c (budget - (turns + 1)) due (word-halt d ∙ ap toldHalt e), ← et d, ← eq)
+              (later-turn turns (turned o (m' d) c') (runFrom (budget - (turns + 1)) s q (m' d) c'));
         }

@@ -6,12 +6,12 @@ use native.Mathlib.Omega.{arith}
 use lib.Dec.{leb, eqb}
 use borrow.Author.Tests.{leb-false, eqb-false}
 use Rattle.machine.specs.Machine.{Machine}
-use Rattle.answers.specs.Answers.{Told, accepted}
-use Rattle.turns.specs.declared.cursor.Cursor.{Cursor}
-use Rattle.turns.specs.declared.ending.Halt.{Halt}
-use Rattle.turns.specs.declared.ending.Halt.the-variants.{GoesOn}
-use Rattle.turns.specs.Streams.{Streams, usedUp}
-use Rattle.turns.specs.Ending.{haltOf, refusedWord, quietAfter, RunEnd, halts, goesOn, finished, stuck, budgetUsed, toldHalt}
+use Rattle.machine.specs.Answers.{Told, accepted}
+use Rattle.run_order.specs.declared.cursor.Cursor.{Cursor}
+use Rattle.run_order.specs.declared.ending.Halt.{Halt}
+use Rattle.run_order.specs.declared.ending.Halt.the-variants.{GoesOn}
+use Rattle.run_order.specs.Streams.{Streams, usedUp}
+use Rattle.run_order.specs.Ending.{haltOf, refusedWord, quietAfter, RunEnd, halts, goesOn, finished, stuck, budgetUsed, toldHalt}
 use Rattle.run_rules.specs.Turn.{turnOf}
 use Rattle.run_rules.specs.Run.{stop, before, runFrom}
 

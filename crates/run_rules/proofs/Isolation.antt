@@ -6,16 +6,16 @@ use mathlib.Core.List.{Forall₂·nil, Forall₂·cons}
 use Rattle.bits.proofs.Choices.{and-left, and-right}
 use Rattle.machine.specs.Machine.{Machine}
 use Rattle.machine.specs.Formed.{sized, formed, wellFormed}
-use Rattle.answers.specs.Answers.{Told, accepted}
-use Rattle.answers.specs.Outcomes.{Progress}
+use Rattle.machine.specs.Answers.{Told, accepted}
+use Rattle.machine.specs.Outcomes.{Progress}
 use Rattle.step_rules.specs.Alike.{Agree}
 use Rattle.step_rules.proofs.Alike.{offers-alike}
-use Rattle.turns.specs.declared.cursor.Cursor.{Cursor}
-use Rattle.turns.specs.declared.streams.Offered.{Offered}
-use Rattle.turns.specs.declared.streams.Offered.the-variants.{NextWord, NoWord}
-use Rattle.turns.specs.Streams.{Streams, nextWord}
-use Rattle.turns.specs.Cursor.{movedOf}
-use Rattle.turns.specs.Ending.{haltOf, refusedWord, quietAfter, RunEnd, Halted, halts, goesOn, budgetUsed}
+use Rattle.run_order.specs.declared.cursor.Cursor.{Cursor}
+use Rattle.run_order.specs.declared.streams.Offered.{Offered}
+use Rattle.run_order.specs.declared.streams.Offered.the-variants.{NextWord, NoWord}
+use Rattle.run_order.specs.Streams.{Streams, nextWord}
+use Rattle.run_order.specs.Cursor.{movedOf}
+use Rattle.run_order.specs.Ending.{haltOf, refusedWord, quietAfter, RunEnd, Halted, halts, goesOn, budgetUsed}
 use Rattle.run_rules.specs.Turn.{Turn, byWord, turnOf}
 use Rattle.run_rules.specs.Checks.{callCheck, callHalt}
 use Rattle.run_rules.specs.Run.{Run, stop, before, unless, runFrom, runOf}

@@ -7,15 +7,15 @@ use native.Mathlib.Omega.{arith}
 use lib.Dec.{leb, eqb}
 use Rattle.machine.specs.Machine.{Machine}
 use Rattle.machine.specs.Formed.{wellFormed}
-use Rattle.answers.specs.Answers.{Told, accepted, refused}
-use Rattle.answers.specs.Outcomes.{Progress, idle, passed, stalled}
-use Rattle.offers.specs.Offer.{hasPassed}
-use Rattle.turns.specs.declared.cursor.Cursor.{Cursor}
-use Rattle.turns.specs.declared.streams.Offered.{Offered}
-use Rattle.turns.specs.declared.streams.Offered.the-variants.{NextWord, NoWord}
-use Rattle.turns.specs.Streams.{Streams, usedUp, nextWord}
-use Rattle.turns.specs.Cursor.{onwardOf, movedOf}
-use Rattle.turns.specs.Ending.{haltOf, refusedWord, quietAfter, RunEnd, Halted, halts, goesOn, finished, stuck, budgetUsed}
+use Rattle.machine.specs.Answers.{Told, accepted, refused}
+use Rattle.machine.specs.Outcomes.{Progress, idle, passed, stalled}
+use Rattle.machine.specs.Outcomes.{hasPassed}
+use Rattle.run_order.specs.declared.cursor.Cursor.{Cursor}
+use Rattle.run_order.specs.declared.streams.Offered.{Offered}
+use Rattle.run_order.specs.declared.streams.Offered.the-variants.{NextWord, NoWord}
+use Rattle.run_order.specs.Streams.{Streams, usedUp, nextWord}
+use Rattle.run_order.specs.Cursor.{onwardOf, movedOf}
+use Rattle.run_order.specs.Ending.{haltOf, refusedWord, quietAfter, RunEnd, Halted, halts, goesOn, finished, stuck, budgetUsed}
 use Rattle.run_rules.specs.Turn.{byWord, turnOf}
 use Rattle.run_rules.specs.Checks.{callCheck, callHalt}
 use Rattle.run_rules.specs.Ready.{Ready}

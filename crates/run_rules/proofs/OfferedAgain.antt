@@ -6,13 +6,13 @@ use mathlib.Core.List.{List, [], _∷_, _++_}
 use native.Mathlib.Omega.{arith}
 use lib.Dec.{eqb}
 use Rattle.machine.specs.Machine.{Machine}
-use Rattle.answers.specs.Answers.{Told, accepted, refused}
-use Rattle.answers.specs.Outcomes.{Progress, idle, passed, stalled}
-use Rattle.offers.specs.Offer.{hasPassed}
-use Rattle.turns.specs.declared.cursor.Cursor.{Cursor}
-use Rattle.turns.specs.Cursor.{cursor, following, onwardOf, pastOf, movedOf}
-use Rattle.turns.specs.Ending.{Halted, halts, goesOn}
-use Rattle.turns.specs.Streams.{Streams, wordAt, nextWord}
+use Rattle.machine.specs.Answers.{Told, accepted, refused}
+use Rattle.machine.specs.Outcomes.{Progress, idle, passed, stalled}
+use Rattle.machine.specs.Outcomes.{hasPassed}
+use Rattle.run_order.specs.declared.cursor.Cursor.{Cursor}
+use Rattle.run_order.specs.Cursor.{cursor, following, onwardOf, pastOf, movedOf}
+use Rattle.run_order.specs.Ending.{Halted, halts, goesOn}
+use Rattle.run_order.specs.Streams.{Streams, wordAt, nextWord}
 use Rattle.run_rules.specs.Turn.{Turn, turnOf}
 use Rattle.run_rules.specs.Checks.{callCheck, callHalt}
 use Rattle.run_rules.specs.Run.{Run, unless, runFrom, runOf}

@@ -8,12 +8,12 @@ use native.Mathlib.Omega.{arith}
 use lib.Dec.{leb, eqb}
 use borrow.Author.Tests.{leb-true}
 use Rattle.machine.specs.Machine.{Machine}
-use Rattle.answers.specs.Answers.{Told, accepted, refused}
-use Rattle.answers.specs.Outcomes.{Progress, idle, passed, stalled}
-use Rattle.turns.specs.declared.cursor.Cursor.{Cursor}
-use Rattle.turns.specs.Streams.{Streams, usedUp}
-use Rattle.turns.specs.Cursor.{onwardOf}
-use Rattle.turns.specs.Ending.{haltOf, refusedWord, quietAfter, Halted, halts, goesOn, finished, stuck, budgetUsed}
+use Rattle.machine.specs.Answers.{Told, accepted, refused}
+use Rattle.machine.specs.Outcomes.{Progress, idle, passed, stalled}
+use Rattle.run_order.specs.declared.cursor.Cursor.{Cursor}
+use Rattle.run_order.specs.Streams.{Streams, usedUp}
+use Rattle.run_order.specs.Cursor.{onwardOf}
+use Rattle.run_order.specs.Ending.{haltOf, refusedWord, quietAfter, Halted, halts, goesOn, finished, stuck, budgetUsed}
 use Rattle.run_rules.specs.Turn.{turnOf}
 use Rattle.run_rules.specs.Checks.{callCheck, callHalt}
 use Rattle.run_rules.specs.Run.{Run, stop, unless, runFrom, runOf}

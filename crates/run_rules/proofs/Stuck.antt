@@ -11,12 +11,12 @@ use lib.Dec.{leb, ltb, eqb·suc-zero}
 use lib.ListN.{length}
 use borrow.Author.Tests.{lt-ltb, le-ltb, le-leb, lt-leb, leb-true, leb-false}
 use Rattle.machine.specs.Machine.{Machine}
-use Rattle.answers.specs.declared.Access.the-variants.{Granted}
-use Rattle.answers.specs.Answers.{Told, accepted}
-use Rattle.turns.specs.declared.cursor.Cursor.{Cursor}
-use Rattle.turns.specs.Streams.{Streams, usedUp}
-use Rattle.turns.specs.Cursor.{onwardOf}
-use Rattle.turns.specs.Ending.{haltOf, RunEnd, goesOn, stuck, budgetUsed}
+use Rattle.machine.specs.declared.access.Access.the-variants.{Granted}
+use Rattle.machine.specs.Answers.{Told, accepted}
+use Rattle.run_order.specs.declared.cursor.Cursor.{Cursor}
+use Rattle.run_order.specs.Streams.{Streams, usedUp}
+use Rattle.run_order.specs.Cursor.{onwardOf}
+use Rattle.run_order.specs.Ending.{haltOf, RunEnd, goesOn, stuck, budgetUsed}
 use Rattle.run_rules.specs.Turn.{Turn, turnOf}
 use Rattle.run_rules.specs.Run.{Run, stop, before, runFrom, runOf}
 use Rattle.run_rules.specs.StuckForGood.{SamePositions, StillTurn, StuckForGood}

@@ -9,16 +9,17 @@ use lib.ListN.{length, getD}
 use borrow.Author.Tests.{ltb-true}
 use Rattle.bits.proofs.Choices.{and-left, and-right}
 use Rattle.machine.specs.Machine.{Machine}
+use Rattle.machine.proofs.StoreFacts.{SizedFacts, sized-facts}
 use Rattle.machine.specs.Formed.{sized, formed, controlFormed}
-use Rattle.answers.specs.Answers.{Told, accepted, refused}
-use Rattle.answers.specs.Outcomes.{Progress, idle, passed, stalled}
+use Rattle.machine.specs.Answers.{Told, accepted, refused}
+use Rattle.machine.specs.Outcomes.{Progress, idle, passed, stalled}
 use Rattle.step_rules.specs.Step.{Step, offerOf}
 use Rattle.step_rules.proofs.Kept.{offer-kept}
-use Rattle.turns.specs.declared.cursor.Cursor.{Cursor}
-use Rattle.turns.specs.declared.streams.Offered.{Offered}
-use Rattle.turns.specs.declared.streams.Offered.the-variants.{NextWord, NoWord}
-use Rattle.turns.specs.Streams.{Streams, wordAt, nextWord}
-use Rattle.turns.specs.Cursor.{cursor, following, onwardOf, pastOf, movedOf}
+use Rattle.run_order.specs.declared.cursor.Cursor.{Cursor}
+use Rattle.run_order.specs.declared.streams.Offered.{Offered}
+use Rattle.run_order.specs.declared.streams.Offered.the-variants.{NextWord, NoWord}
+use Rattle.run_order.specs.Streams.{Streams, wordAt, nextWord}
+use Rattle.run_order.specs.Cursor.{cursor, following, onwardOf, pastOf, movedOf}
 use Rattle.run_rules.specs.Turn.{turned, byWord, turnOf}
 use Rattle.run_rules.specs.Ready.{Within, Ready}
 
@@ -104,7 +105,14 @@ turn-ready s m c r = go (nextWord s c) refl
         }
 
 -- what step's offer asks of the machine and the thread
-pub ready-offer : (s : Streams) (m : Machine) (c : Cursor) → Ready s m c →
-    (sized m ≡ true) × (controlFormed (m .control) ≡ true) × (c .next < 3)
-ready-offer s m c r =
-    (and-left (sized m) (formed m) (r .whole), and-left (controlFormed (m .control)) _ (and-right (sized m) (formed m) (r .whole)), r .within .thread)
+-- what an offer asks of a machine that is ready
+pub record Parts (m : Machine) (c : Cursor) : Type 0 where
+  pub sizes : SizedFacts (m .settings) (m .kept)
+  pub control : controlFormed (m .control) ≡ true
+  pub thread : c .next < 3
+
+pub ready-parts : (s : Streams) (m : Machine) (c : Cursor) → Ready s m c → Parts m c
+ready-parts s m c r =
+    let sizes = and-left (sized m) (formed m) (r .whole) in
+    let ranges = and-right (sized m) (formed m) (r .whole) in
+    record { sizes = sized-facts m sizes; control = and-left (controlFormed (m .control)) _ ranges; thread = r .within .thread }

@@ -4,17 +4,17 @@ use mathlib.Core.Path.{_≡_, refl, ap}
 use mathlib.Core.Bool.{true, false}
 use native.Mathlib.Omega.{arith}
 use Rattle.machine.specs.Machine.{Machine}
-use Rattle.answers.specs.Answers.{Told, accepted, refused}
-use Rattle.answers.specs.Outcomes.{Progress, idle, passed, stalled}
-use Rattle.offers.specs.Offer.{hasPassed}
+use Rattle.machine.specs.Answers.{Told, accepted, refused}
+use Rattle.machine.specs.Outcomes.{Progress, idle, passed, stalled}
+use Rattle.machine.specs.Outcomes.{hasPassed}
 use Rattle.step_rules.specs.Step.{offerOf}
 use Rattle.step_rules.proofs.Unchanged.{offer-unchanged}
-use Rattle.turns.specs.declared.cursor.Cursor.{Cursor}
-use Rattle.turns.specs.declared.streams.Offered.{Offered}
-use Rattle.turns.specs.declared.streams.Offered.the-variants.{NextWord, NoWord}
-use Rattle.turns.specs.Streams.{Streams, nextWord}
-use Rattle.turns.specs.Cursor.{cursor, following, onwardOf, movedOf}
-use Rattle.turns.specs.Ending.{refusedWord, quietAfter, goesOn}
+use Rattle.run_order.specs.declared.cursor.Cursor.{Cursor}
+use Rattle.run_order.specs.declared.streams.Offered.{Offered}
+use Rattle.run_order.specs.declared.streams.Offered.the-variants.{NextWord, NoWord}
+use Rattle.run_order.specs.Streams.{Streams, nextWord}
+use Rattle.run_order.specs.Cursor.{cursor, following, onwardOf, movedOf}
+use Rattle.run_order.specs.Ending.{refusedWord, quietAfter, goesOn}
 use Rattle.run_rules.specs.Turn.{byWord, turnOf}
 use Rattle.run_rules.specs.StuckForGood.{waiting}
 

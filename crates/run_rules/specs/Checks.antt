@@ -6,10 +6,10 @@ use lib.ListN.{length}
 use Rattle.machine.specs.Sizes.{streamMost, budgetMost}
 use Rattle.machine.specs.Machine.{Machine}
 use Rattle.machine.specs.Formed.{sized, formed}
-use Rattle.answers.specs.Answers.{Told, accepted, refused, provided}
-use Rattle.turns.specs.declared.cursor.Cursor.{Cursor}
-use Rattle.turns.specs.Streams.{Streams}
-use Rattle.turns.specs.Ending.{Halted, halts, goesOn}
+use Rattle.machine.specs.Answers.{Told, accepted, refused, provided}
+use Rattle.run_order.specs.declared.cursor.Cursor.{Cursor}
+use Rattle.run_order.specs.Streams.{Streams}
+use Rattle.run_order.specs.Ending.{Halted, halts, goesOn}
 
 -- no stream is over 65,536 words
 unfoldable pub streamsSized : Streams → Bool

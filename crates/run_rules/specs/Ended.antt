@@ -7,12 +7,12 @@ use mathlib.Core.List.{List, [], _∷_, _++_}
 use mathlib.Core.Logic.{_⊎_}
 use lib.ListN.{length}
 use Rattle.machine.specs.Machine.{Machine}
-use Rattle.answers.specs.Answers.{Told, accepted, refused}
-use Rattle.answers.specs.Outcomes.{Progress}
-use Rattle.offers.specs.Offer.{hasPassed}
-use Rattle.turns.specs.declared.cursor.Cursor.{Cursor}
-use Rattle.turns.specs.Ending.{RunEnd, finished, stuck, budgetUsed, wordRefused}
-use Rattle.turns.specs.Streams.{Streams, usedUp}
+use Rattle.machine.specs.Answers.{Told, accepted, refused}
+use Rattle.machine.specs.Outcomes.{Progress}
+use Rattle.machine.specs.Outcomes.{hasPassed}
+use Rattle.run_order.specs.declared.cursor.Cursor.{Cursor}
+use Rattle.run_order.specs.Ending.{RunEnd, finished, stuck, budgetUsed, wordRefused}
+use Rattle.run_order.specs.Streams.{Streams, usedUp}
 use Rattle.run_rules.specs.Turn.{Turn}
 use Rattle.run_rules.specs.Run.{Run, stop, runOf}
 use Rattle.run_rules.specs.Observed.{machineLeft, cursorLeft}

@@ -8,8 +8,8 @@ use lib.ListN.{length}
 use Rattle.machine.specs.Machine.{Machine}
 use Rattle.machine.specs.Formed.{wellFormed}
 use Rattle.step_rules.specs.Alike.{Agree}
-use Rattle.turns.specs.declared.cursor.Cursor.{Cursor}
-use Rattle.turns.specs.Streams.{Streams}
+use Rattle.run_order.specs.declared.cursor.Cursor.{Cursor}
+use Rattle.run_order.specs.Streams.{Streams}
 use Rattle.run_rules.specs.Turn.{Turn}
 use Rattle.run_rules.specs.Run.{Run, runOf}
 

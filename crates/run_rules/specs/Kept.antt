@@ -5,10 +5,10 @@ use mathlib.Core.Bool.{true, false}
 use mathlib.Core.List.{List}
 use Rattle.machine.specs.Machine.{Machine}
 use Rattle.machine.specs.Formed.{wellFormed}
-use Rattle.answers.specs.Answers.{refused}
-use Rattle.offers.specs.Offer.{hasPassed}
-use Rattle.turns.specs.declared.cursor.Cursor.{Cursor}
-use Rattle.turns.specs.Streams.{Streams}
+use Rattle.machine.specs.Answers.{refused}
+use Rattle.machine.specs.Outcomes.{hasPassed}
+use Rattle.run_order.specs.declared.cursor.Cursor.{Cursor}
+use Rattle.run_order.specs.Streams.{Streams}
 use Rattle.run_rules.specs.Turn.{turnOf}
 use Rattle.run_rules.specs.Run.{stop, runOf}
 use Rattle.run_rules.specs.StuckForGood.{SamePositions}

@@ -5,12 +5,12 @@ use mathlib.Core.Bool.{Bool, true, false, cond}
 use mathlib.Core.List.{List, _∷_, _++_}
 use lib.Dec.{eqb}
 use Rattle.machine.specs.Machine.{Machine}
-use Rattle.answers.specs.Answers.{Told, accepted, refused}
-use Rattle.answers.specs.Outcomes.{Progress, stalled}
-use Rattle.offers.specs.Offer.{hasPassed}
-use Rattle.turns.specs.declared.cursor.Cursor.{Cursor}
-use Rattle.turns.specs.Cursor.{following}
-use Rattle.turns.specs.Streams.{Streams, nextWord}
+use Rattle.machine.specs.Answers.{Told, accepted, refused}
+use Rattle.machine.specs.Outcomes.{Progress, stalled}
+use Rattle.machine.specs.Outcomes.{hasPassed}
+use Rattle.run_order.specs.declared.cursor.Cursor.{Cursor}
+use Rattle.run_order.specs.Cursor.{following}
+use Rattle.run_order.specs.Streams.{Streams, nextWord}
 use Rattle.run_rules.specs.Turn.{Turn, turnOf}
 use Rattle.run_rules.specs.Run.{runOf}
 use Rattle.run_rules.specs.Observed.{cursorLeft}

@@ -1,13 +1,14 @@
--- What a call that is not refused has, and what each turn keeps.
-use Prim.Native.Nat.{_≤_, _<_}
+-- What a call that is not refused has, and what each turn keeps. It serves the contracts of the code and the proofs.
+use Prim.Native.Nat.{ℕ, _≤_, _<_}
 use mathlib.Core.Path.{_≡_}
 use mathlib.Core.Bool.{true}
+use mathlib.Core.List.{List}
 use lib.ListN.{length}
 use Rattle.machine.specs.Sizes.{streamMost}
 use Rattle.machine.specs.Machine.{Machine}
 use Rattle.machine.specs.Formed.{wellFormed}
-use Rattle.turns.specs.declared.cursor.Cursor.{Cursor}
-use Rattle.turns.specs.Streams.{Streams}
+use Rattle.run_order.specs.declared.cursor.Cursor.{Cursor}
+use Rattle.run_order.specs.Streams.{Streams}
 
 -- no stream is too long
 pub record Lengths (s : Streams) : Type 0 where
@@ -26,3 +27,8 @@ pub record Ready (s : Streams) (m : Machine) (c : Cursor) : Type 0 where
   pub whole : wellFormed m ≡ true
   pub lengths : Lengths s
   pub within : Within s c
+
+-- the same of a machine of which Dest's cells are not lent: it is ready with some cells
+pub record ReadyApart (s : Streams) (m : List ℕ → Machine) (c : Cursor) : Type 0 where
+  pub cells : List ℕ
+  pub ready : Ready s (m cells) c

@@ -3,10 +3,10 @@ use Prim.Native.Nat.{ℕ, zero, suc}
 use mathlib.Core.List.{List, [], _∷_}
 use lib.ListN.{length}
 use Rattle.machine.specs.Machine.{Machine}
-use Rattle.answers.specs.Answers.{Told, accepted}
-use Rattle.turns.specs.declared.cursor.Cursor.{Cursor}
-use Rattle.turns.specs.Streams.{Streams}
-use Rattle.turns.specs.Ending.{haltOf, refusedWord, quietAfter, RunEnd, Halted, halts, goesOn, budgetUsed}
+use Rattle.machine.specs.Answers.{Told, accepted}
+use Rattle.run_order.specs.declared.cursor.Cursor.{Cursor}
+use Rattle.run_order.specs.Streams.{Streams}
+use Rattle.run_order.specs.Ending.{haltOf, refusedWord, quietAfter, RunEnd, Halted, halts, goesOn, budgetUsed}
 use Rattle.run_rules.specs.Turn.{Turn, turnOf}
 use Rattle.run_rules.specs.Checks.{callCheck, callHalt}
 

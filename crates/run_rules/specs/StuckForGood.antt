@@ -7,11 +7,11 @@ use lib.Dec.{ltb}
 use lib.ListN.{length}
 use Rattle.machine.specs.Sizes.{budgetMost}
 use Rattle.machine.specs.Machine.{Machine}
-use Rattle.answers.specs.Answers.{Told, accepted, refused}
-use Rattle.answers.specs.Outcomes.{Progress, idle, passed, stalled}
-use Rattle.turns.specs.declared.cursor.Cursor.{Cursor}
-use Rattle.turns.specs.Streams.{Streams}
-use Rattle.turns.specs.Ending.{stuck, budgetUsed}
+use Rattle.machine.specs.Answers.{Told, accepted, refused}
+use Rattle.machine.specs.Outcomes.{Progress, idle, passed, stalled}
+use Rattle.run_order.specs.declared.cursor.Cursor.{Cursor}
+use Rattle.run_order.specs.Streams.{Streams}
+use Rattle.run_order.specs.Ending.{stuck, budgetUsed}
 use Rattle.run_rules.specs.Turn.{Turn}
 use Rattle.run_rules.specs.Run.{Run, runOf}
 

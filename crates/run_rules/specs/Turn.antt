@@ -1,13 +1,13 @@
 -- One turn: its outcome, and the machine and the cursor that it leaves.
 use Rattle.machine.specs.Machine.{Machine}
-use Rattle.answers.specs.Answers.{Told, accepted}
-use Rattle.answers.specs.Outcomes.{Progress, idle}
+use Rattle.machine.specs.Answers.{Told, accepted}
+use Rattle.machine.specs.Outcomes.{Progress, idle}
 use Rattle.step_rules.specs.Step.{Step, offerOf}
-use Rattle.turns.specs.declared.cursor.Cursor.{Cursor}
-use Rattle.turns.specs.declared.streams.Offered.{Offered}
-use Rattle.turns.specs.declared.streams.Offered.the-variants.{NextWord, NoWord}
-use Rattle.turns.specs.Streams.{Streams, nextWord}
-use Rattle.turns.specs.Cursor.{movedOf}
+use Rattle.run_order.specs.declared.cursor.Cursor.{Cursor}
+use Rattle.run_order.specs.declared.streams.Offered.{Offered}
+use Rattle.run_order.specs.declared.streams.Offered.the-variants.{NextWord, NoWord}
+use Rattle.run_order.specs.Streams.{Streams, nextWord}
+use Rattle.run_order.specs.Cursor.{movedOf}
 
 pub record Turn : Type 0 where
   pub outcome : Told Progress

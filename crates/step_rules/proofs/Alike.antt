@@ -5,13 +5,13 @@ use mathlib.Core.List.{List}
 use Rattle.machine.specs.declared.control.Control.{Control}
 use Rattle.machine.specs.Control.{control}
 use Rattle.machine.specs.Machine.{Machine}
-use Rattle.answers.specs.Answers.{Told, accepted, refused}
+use Rattle.machine.specs.Answers.{Told, accepted, refused}
 use Rattle.word_rules.specs.declared.instruction.Instruction.{Instruction}
-use Rattle.word_rules.specs.Decode.{decodeOf}
-use Rattle.offers.specs.Offer.{Gate, Open, Closed}
-use Rattle.gate.specs.Gate.{gateOf}
-use Rattle.control.specs.After.{controlAfter}
-use Rattle.effects.specs.After.{settingsAfter}
+use Rattle.word_rules.specs.Table.{decodeOf}
+use Rattle.word_rules.specs.Waits.{Gate, Open, Closed}
+use Rattle.word_rules.specs.Waits.{gateOf}
+use Rattle.word_rules.specs.After.{controlAfter}
+use Rattle.word_rules.specs.After.{settingsAfter}
 use Rattle.step_rules.specs.Step.{machineAfter, byGate, gatedOf, byDecoded, offerOf}
 use Rattle.step_rules.specs.Alike.{Agree, StepsAlike, OffersAlike}
 

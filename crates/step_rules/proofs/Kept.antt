@@ -9,17 +9,17 @@ use Rattle.bits.proofs.Choices.{and-left, and-right}
 use Rattle.machine.specs.Sizes.{settingCount, halfMost}
 use Rattle.machine.specs.Machine.{Machine}
 use Rattle.machine.specs.Formed.{sized, formed, wellFormed, controlFormed, storesSized, storesFormed}
-use Rattle.answers.specs.Answers.{Told, accepted, refused}
+use Rattle.machine.specs.Answers.{Told, accepted, refused}
 use Rattle.word_rules.specs.declared.instruction.Instruction.{Instruction}
-use Rattle.word_rules.specs.Decode.{decodeOf}
+use Rattle.word_rules.specs.Table.{decodeOf}
 use Rattle.word_rules.specs.InRange.{InRange, DecodedInRange}
-use Rattle.word_rules.proofs.InRange.{decode-in-range}
-use Rattle.offers.specs.Offer.{Gate, Open, Closed}
-use Rattle.banks.specs.Owners.{matrixBank}
-use Rattle.gate.specs.Gate.{gateOf}
-use Rattle.control.proofs.Keeps.{control-after-formed}
-use Rattle.effects.specs.After.{settingsAfter}
-use Rattle.effects.proofs.Keeps.{settings-long, settings-range, stores-sized, stores-formed}
+use Rattle.word_rules.proofs.Saying.{decode-in-range}
+use Rattle.word_rules.specs.Waits.{Gate, Open, Closed}
+use Rattle.machine.specs.Control.{matrixBank}
+use Rattle.word_rules.specs.Waits.{gateOf}
+use Rattle.word_rules.proofs.ControlKeeps.{control-after-formed}
+use Rattle.word_rules.specs.After.{settingsAfter}
+use Rattle.word_rules.proofs.StoresKeep.{settings-long, settings-range, stores-sized, stores-formed}
 use Rattle.step_rules.specs.Step.{machineAfter, byGate, gatedOf, byDecoded, offerOf, checkOf, byCheck, stepOf}
 use Rattle.step_rules.specs.Kept.{KeepsFormed}
 use Rattle.step_rules.proofs.Ways.{accepted-shows}
@@ -29,7 +29,6 @@ unfolding machineAfter
 passed-kept m t i h r e =
     let a = matrixBank (m .control) 0 in
     let b = matrixBank (m .control) 1 in
-    let s = sized m in
     let hs = and-left (sized m) (formed m) e in
     let hf = and-right (sized m) (formed m) e in
     let ls = and-left (eqb (length (m .settings)) settingCount) (storesSized (m .kept)) hs in
@@ -40,7 +39,7 @@ passed-kept m t i h r e =
     let rs = and-left (allAtMost halfMost (m .settings)) (storesFormed (m .kept)) hr in
     let ks' = and-right (allAtMost halfMost (m .settings)) (storesFormed (m .kept)) hr in
     let long : eqb (length (settingsAfter i t (m .settings))) settingCount ≡ true = rw (settings-long i t (m .settings)) ls in
-    rw (long, stores-sized i t a b (m .settings) (m .kept) ks, control-after-formed (m .control) t i h r hc, settings-range i t (m .settings) r rs, stores-formed i t a b (m .settings) (m .kept) r ks')
+    rw (long, stores-sized i t a b (m .settings) (m .kept), ks, control-after-formed (m .control) t i h r hc, settings-range i t (m .settings) r rs, stores-formed i t a b (m .settings) (m .kept) r ks')
 
 gate-kept : (m : Machine) (t : ℕ) (i : Instruction) (g : Gate) → t < 3 → InRange i → wellFormed m ≡ true → wellFormed (byGate m t i g .after) ≡ true
 gate-kept m t i Open h r e = passed-kept m t i h r e

@@ -1,12 +1,12 @@
 -- An offered word is refused by 2 or 3 alone.
 use Prim.Native.Nat.{ℕ}
 use Rattle.machine.specs.Machine.{Machine}
-use Rattle.answers.specs.Answers.{Told, accepted, refused}
+use Rattle.machine.specs.Answers.{Told, accepted, refused}
 use Rattle.word_rules.specs.declared.instruction.Instruction.{Instruction}
-use Rattle.word_rules.specs.Decode.{decodeOf}
-use Rattle.word_rules.proofs.Refusing.{TwoOrThree, two-or-three}
-use Rattle.offers.specs.Offer.{Gate, Open, Closed}
-use Rattle.gate.specs.Gate.{gateOf}
+use Rattle.word_rules.specs.Table.{decodeOf}
+use Rattle.word_rules.proofs.Saying.{TwoOrThree, two-or-three}
+use Rattle.word_rules.specs.Waits.{Gate, Open, Closed}
+use Rattle.word_rules.specs.Waits.{gateOf}
 use Rattle.step_rules.specs.Step.{byGate, gatedOf, byDecoded, offerOf}
 
 module _ (m : Machine) (t : ℕ) where

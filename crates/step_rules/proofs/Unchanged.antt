@@ -4,12 +4,12 @@ use mathlib.Core.Path.{_≡_, refl}
 use mathlib.Core.Bool.{false}
 use native.Mathlib.Omega.{arith}
 use Rattle.machine.specs.Machine.{Machine}
-use Rattle.answers.specs.Answers.{Told, accepted, refused}
+use Rattle.machine.specs.Answers.{Told, accepted, refused}
 use Rattle.word_rules.specs.declared.instruction.Instruction.{Instruction}
-use Rattle.word_rules.specs.Decode.{decodeOf}
-use Rattle.offers.specs.Offer.{Gate, Open, Closed}
-use Rattle.offers.specs.Offer.{hasPassed}
-use Rattle.gate.specs.Gate.{gateOf}
+use Rattle.word_rules.specs.Table.{decodeOf}
+use Rattle.word_rules.specs.Waits.{Gate, Open, Closed}
+use Rattle.machine.specs.Outcomes.{hasPassed}
+use Rattle.word_rules.specs.Waits.{gateOf}
 use Rattle.step_rules.specs.Step.{byGate, gatedOf, byDecoded, offerOf, checkOf, byCheck, stepOf}
 use Rattle.step_rules.specs.Unchanged.{Unchanged}
 

@@ -2,17 +2,17 @@
 use Prim.Native.Nat.{ℕ}
 use lib.Dec.{leb}
 use lib.ListN.{getD}
-use Rattle.machine.specs.Machine.{Machine, machine}
+use Rattle.machine.specs.Machine.{Machine, machineWith}
 use Rattle.machine.specs.Formed.{sized, formed}
-use Rattle.answers.specs.Answers.{Told, accepted, refused, provided}
-use Rattle.answers.specs.Outcomes.{Progress, passed, stalled}
+use Rattle.machine.specs.Answers.{Told, accepted, refused, provided}
+use Rattle.machine.specs.Outcomes.{Progress, passed, stalled}
 use Rattle.word_rules.specs.declared.instruction.Instruction.{Instruction}
-use Rattle.word_rules.specs.Decode.{decodeOf}
-use Rattle.offers.specs.Offer.{Gate, Open, Closed}
-use Rattle.banks.specs.Owners.{matrixBank}
-use Rattle.gate.specs.Gate.{gateOf}
-use Rattle.control.specs.After.{controlAfter}
-use Rattle.effects.specs.After.{settingsAfter, storesAfter}
+use Rattle.word_rules.specs.Table.{decodeOf}
+use Rattle.word_rules.specs.Waits.{Gate, Open, Closed}
+use Rattle.machine.specs.Control.{matrixBank}
+use Rattle.word_rules.specs.Waits.{gateOf}
+use Rattle.word_rules.specs.After.{controlAfter}
+use Rattle.word_rules.specs.After.{settingsAfter, storesAfter}
 
 -- an outcome, with the machine after it
 pub record Step : Type 0 where
@@ -25,8 +25,7 @@ stepped o m = record { outcome = o; after = m }
 -- the machine after a word that passes; the banks are those at the matrix pointers as the word finds them
 unfoldable pub machineAfter : Machine → ℕ → Instruction → Machine
 machineAfter m t i =
-    machine (controlAfter (m .control) t i) (settingsAfter i t (m .settings))
-    (storesAfter i t (matrixBank (m .control) 0) (matrixBank (m .control) 1) (m .settings) (m .kept))
+    machineWith (controlAfter (m .control) t i) (settingsAfter i t (m .settings)) (storesAfter i t (matrixBank (m .control) 0) (matrixBank (m .control) 1) (m .settings) (m .kept))
 
 abbrev pub passOf : Machine → ℕ → Instruction → Step
 passOf m t i = stepped (accepted passed) (machineAfter m t i)

@@ -3,7 +3,7 @@ use Prim.Native.Nat.{ℕ}
 use mathlib.Core.Path.{_≡_}
 use mathlib.Core.Bool.{false}
 use Rattle.machine.specs.Machine.{Machine}
-use Rattle.offers.specs.Offer.{hasPassed}
+use Rattle.machine.specs.Outcomes.{hasPassed}
 use Rattle.step_rules.specs.Step.{offerOf, stepOf}
 
 pub record Unchanged : Type 0 where

@@ -62,8 +62,8 @@ pub bytes-next : (l : List ℕ) (p i : ℕ) (t : List ℕ) → i < length t → 
 bytes-next l p i t h k =
     rw (drop-cons t i 0 h, over-set l p (getD t i 0) k, add-one i) (over-over l p (getD t i 0 ∷ []) (drop (suc i) t) (omega arith))
 
-pub bytes-end : (l : List ℕ) (p i : ℕ) (t : List ℕ) → length t ≤ i → i ≤ length t → over l p (drop i t) ≡ l
-bytes-end l p i t h k = let e : i ≡ length t = omega arith in rw (e, drop-length) (over-none l p)
+pub bytes-done : (l : List ℕ) (p i : ℕ) (t : List ℕ) → length t ≤ i → i ≤ length t → over l p (drop i t) ≡ l
+bytes-done l p i t h k = let e : i ≡ length t = omega arith in rw (e, drop-length) (over-none l p)
 
 -- where no digit is left
 pub count-none : (left n : ℕ) → left ≡ 0 → digitCount left n ≡ 0

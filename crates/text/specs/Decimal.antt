@@ -14,6 +14,9 @@ unfoldable pub lastDigits : ℕ → ℕ → List ℕ
 lastDigits zero n = []
 lastDigits (suc k) n = lastDigits k (n / 10) ++ ((n % 10 + 48) ∷ [])
 
--- a number of 64 bits has at most twenty digits
+-- the most digits of a number of 64 bits
+abbrev pub digitsMost : ℕ
+digitsMost = 20
+
 abbrev pub decimal : ℕ → List ℕ
-decimal n = lastDigits (digitCount 20 n) n
+decimal n = lastDigits (digitCount digitsMost n) n

@@ -4,7 +4,10 @@ ghost use mathlib.Core.List.{[], _∷_};
 ghost use Prim.Native.Nat.{_+_, _≤_};
 ghost use lib.ListN.{length};
 ghost use Rattle.bits.specs.Overwrite.{over, Wrote};
-ghost use Rattle.text.specs.Decimal.{digitCount, lastDigits, decimal};
+ghost use Rattle.text.specs.Decimal.{digitCount, lastDigits, digitsMost, decimal};
+
+// The most digits of a number of 64 bits.
+const DIGITS_MOST: usize = 20;
 
 // Internal: there is room.
 pub fn put_byte(out: &mut [u8], at: usize, b: u8) -> usize
@@ -32,11 +35,11 @@ pub fn put_bytes(out: &mut [u8], at: usize, bytes: &[u8]) -> usize
 
 // How many digits a number has.
 fn digit_count(n: usize) -> usize
-    ensures { λ r. ⌜ r ≡ digitCount 20 n ⌝ }
+    ensures { λ r. ⌜ r ≡ digitCount digitsMost n ⌝ }
 {
     let mut m = n;
     let mut k: usize = 0;
-    let mut left: usize = 20;
+    let mut left: usize = DIGITS_MOST;
     while 0 < left {
         if m < 10 {
             return k + 1;
@@ -62,11 +65,11 @@ fn put_digits(out: &mut [u8], at: usize, k: usize, n: usize)
     }
 }
 
-// A number without leading zeros. Internal: there is room for the twenty digits of the largest.
+// A number without leading zeros. Internal: there is room for the digits of the largest.
 pub fn put_decimal(out: &mut [u8], at: usize, n: usize) -> usize
-    requires { ⌜ at + 20 ≤ length (now out) ⌝ }
+    requires { ⌜ at + digitsMost ≤ length (now out) ⌝ }
     ensures { λ r. ⌜ Wrote (now (out .entry)) at (decimal n) (now (out .exit)) r ⌝ }
-    ensures short { λ r. ⌜ r ≤ at + 20 ⌝ }
+    ensures short { λ r. ⌜ r ≤ at + digitsMost ⌝ }
 {
     let k = digit_count(n);
     put_digits(out, at, k, n);

@@ -1,5 +1,13 @@
-pub mod InRange
+pub mod Rows
+pub mod Saying
 pub mod Examples
-pub mod Units
-pub mod Only
-pub mod Refusing
+pub mod Bytes
+pub mod FaceLaws
+pub mod MarkLaws
+pub mod PartsCleared
+pub mod StoresKeep
+pub mod ControlKeeps
+pub mod Masks
+pub mod Deciding
+pub mod Dropping
+pub mod Offering

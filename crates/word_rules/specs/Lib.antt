@@ -1,8 +1,12 @@
-pub mod Refused
+pub mod Marks
+pub mod Face
+pub mod CellWords
+pub mod BankWords
 pub mod ScalarWords
 pub mod SyncWords
 pub mod ConfigWords
-pub mod MatrixWords
-pub mod Decode
-pub mod Units
+pub mod Table
+pub mod Waits
+pub mod After
 pub mod InRange
+pub mod Offered

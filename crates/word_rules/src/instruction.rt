@@ -1,5 +1,4 @@
 // The instructions, grouped by the unit that a block bit names. Names are the published ones.
-use machine::refusal::Refusal;
 use machine::units::GprNumber;
 use machine::units::HalfRegister;
 
@@ -62,19 +61,15 @@ pub enum ConfigWord {
     },
 }
 
-// A word of the matrix unit, block bit B6.
-pub enum MatrixWord {
+// A word of the matrix unit, block bit B6, that works on source cells and Dest's marks.
+pub enum CellWord {
     TrnspSrcB,
-    MovB2A {
-        row_a: u8,
-        four: bool,
-        row_b: u8,
-    },
-    ZeroAcc {
-        mode: u8,
-        wide: bool,
-        place: u16,
-    },
+    MovB2A { row_a: u8, four: bool, row_b: u8 },
+    ZeroAcc { mode: u8, wide: bool, place: u16 },
+}
+
+// A word of the matrix unit, block bit B6, that works on bank owners and pointers.
+pub enum BankWord {
     ClearDValid {
         a: bool,
         b: bool,
@@ -87,15 +82,12 @@ pub enum MatrixWord {
     },
 }
 
+// In the order of the table.
 pub enum Instruction {
     Nop,
+    Cell(CellWord),
+    Bank(BankWord),
     Scalar(ScalarWord),
     Sync(SyncWord),
     Config(ConfigWord),
-    Matrix(MatrixWord),
-}
-
-pub enum Decoded {
-    Decodes(Instruction),
-    Rejects(Refusal),
 }

@@ -1,5 +1,7 @@
-// What a word says (document 01, "Words of the base"): the instructions, and the definition of decoding.
+// All that document 01's table says of a word, "Words of the base": the instructions here, and in specs/ which opcode is whose (`Table`), what
+// each word says, when it waits and what it does. The functions are those that every word's code uses.
 pub mod instruction;
-pub mod refused;
-pub mod unit;
+pub mod semaphore_change;
+pub mod stepped;
+pub mod verdict;
 pub mod views;

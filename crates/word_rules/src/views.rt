@@ -1,6 +1,6 @@
 // The views of Dest that a word may name.
 ghost use mathlib.Core.Path.{_≡_};
-ghost use Rattle.word_rules.specs.MatrixWords.{viewRows};
+ghost use Rattle.word_rules.specs.Marks.{viewRows};
 use dest::rows::View16Row;
 use dest::rows::View32Row;
 

@@ -7,16 +7,16 @@ use Rattle.run_rules.proofs.Ended.{ended}
 use Rattle.run_rules.proofs.OfferedAgain.{offered-again}
 use Rattle.step_rules.proofs.Kept.{keeps-formed}
 use Rattle.step_rules.proofs.Unchanged.{unchanged}
-use Rattle.dest_cover.proofs.Cover.{views-cover}
+use Rattle.dest.proofs.Covering.{views-cover}
 use Rattle.image.proofs.Trips.{image-facts, round-trips}
-use Rattle.dest_access.proofs.DestBack.{dest-promises}
-use Rattle.gpr_access.proofs.GprBack.{gpr-promises}
-use Rattle.source_access.proofs.SourceBack.{source-promises}
+use Rattle.bench_dest.proofs.DestBack.{dest-promises}
+use Rattle.bench_gprs.proofs.GprBack.{gpr-promises}
+use Rattle.bench_sources.proofs.SourceBack.{source-promises}
 use Rattle.expander_rules.proofs.Pieces.{cut, joined-pieces}
 use Rattle.expander_rules.proofs.Formed.{carries-formed}
 use Rattle.expander_rules.proofs.Empty.{empty-loads}
 use Rattle.expander_rules.proofs.Whole.{refused-pieces, stages, plain-streams, slots-handed-back, fresh-expander}
-use Rattle.replay_buffer.proofs.Back.{back}
+use Rattle.expander_rules.proofs.PlayBack.{back}
 use Rattle.acceptance.proofs.Worked.{all-worked}
 use Rattle.acceptance.proofs.promises.Statement.{statement}
 use Rattle.acceptance.proofs.promises.Tie as tie

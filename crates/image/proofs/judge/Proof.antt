@@ -1,28 +1,26 @@
-use native.Mathlib.Omega.{arith}
-use Rattle.image.proofs.Answers.{judged-unsized, judged-not-long, judged-not-good, judged-taken}
-use Rattle.layout.specs.Image.{image}
-use Rattle.image.specs.Calls.{toldLoad}
-use Rattle.image.specs.declared.LoadAnswer.the-variants.{NotLoaded}
-use Rattle.format.proofs.Lawful.{accepts-yes}
-use Rattle.machine.specs.declared.refusal.Refusal.the-variants.{BadImage}
-use borrow.Author.Tests.{not-true, not-false}
-use mathlib.Core.Path.{sym, ap, _∙_}
-use Prim.Native.Nat.{ℕ}
 use borrow.Author.Needs.{needs}
+use borrow.Author.Tests.{not-true, not-false}
+use Rattle.machine.proofs.Checks.{held, failed}
+use Rattle.format.specs.Format.{accepts}
+use Rattle.image.proofs.Answers.{judged-unsized, judged-bad, judged-taken}
 use Rattle.image.proofs.judge.Statement.{statement}
 use Rattle.image.proofs.judge.Tie as tie
 
 returns : tie.Need-returns
-returns c = judged-unsized (c .before .before .args .fits) (c .before .before .args .bytes .now) (not-true _ (c .if1 .taken))
+returns c = judged-unsized _ _ (not-true _ (c .if1 .taken))
 
 returns-2 : tie.Need-returns-2
-returns-2 c = let a = c .before .before .before .before .args in ap (λ (g : ℕ). toldLoad (NotLoaded (BadImage g))) (c .before .scan .ensures) ∙ judged-not-long (a .fits) (a .bytes .now) (not-false _ (c .before .before .if1 .left)) (λ e. omega arith)
+unfolding accepts
+returns-2 c =
+    let scanned = c .before .before in
+    let found = scanned .scan .ensures in
+    judged-bad _ _ (not-false _ (scanned .before .if1 .left)) (failed (found .1) (c .if2 .taken)) (found .0)
 
 returns-3 : tie.Need-returns-3
-returns-3 c = let a = c .before .before .before .before .before .args in let e = c .before .before .scan .ensures in ap (λ (g : ℕ). toldLoad (NotLoaded (BadImage g))) e ∙ judged-not-good (a .fits) (a .bytes .now) (not-false _ (c .before .before .before .if1 .left)) (omega arith) (λ g. c .if3 .taken (e ∙ g))
-
-returns-4 : tie.Need-returns-4
-returns-4 c = let a = c .before .before .before .before .before .args in judged-taken (a .fits) (a .bytes .now) (not-false _ (c .before .before .before .if1 .left)) (accepts-yes image (a .bytes .now) (omega arith) (sym (c .before .before .scan .ensures) ∙ c .if3 .left))
+unfolding accepts
+returns-3 c =
+    let scanned = c .before .before in
+    judged-taken _ _ (not-false _ (scanned .before .if1 .left)) (held (scanned .scan .ensures .1) (c .if2 .left))
 
 pub judge-spec : {M : Type 1} → statement M
-judge-spec = tie.close (tie.spec returns (λ c κs. search needs) returns-2 returns-3 returns-4)
+judge-spec = tie.close (tie.spec returns (λ c κs. search needs) returns-2 returns-3)

@@ -1,62 +1,63 @@
 use mathlib.Core.Path.{_≡_, sym, ap, _∙_}
 use mathlib.Core.Bool.{Bool, true}
+use mathlib.Core.List.{List}
+use Prim.Native.Nat.{ℕ}
 use native.Mathlib.Omega.{arith}
-use Rattle.machine.specs.Machine.{Machine, machine, stores}
+use borrow.Author.Needs.{needs}
+use Rattle.machine.specs.Machine.{Machine, machine}
 use Rattle.machine.specs.Formed.{sized}
-use Rattle.machine.proofs.SizedFacts.{sized-facts}
+use Rattle.machine.proofs.StoreFacts.{sized-facts}
 use Rattle.format.specs.Format.{accepts}
 use Rattle.format.proofs.Lawful.{accepts-whole}
-use Rattle.layout.specs.Image.{image}
+use Rattle.image_layout.specs.Image.{image}
 use Rattle.image.specs.Calls.{toldLoad, loadCheck}
 use Rattle.image.proofs.Answers.{taken-means, load-refused, load-taken}
-use borrow.Author.Needs.{needs}
 use Rattle.image.proofs.load.Statement.{statement}
 use Rattle.image.proofs.load.Tie as tie
 
--- the machine that is handed in
-abbrev handed : tie.Start → Machine
+abbrev start : tie.After-judge → tie.Start
+start c = c .before .before .before .before .before .before .before .before .before .before .before .before .before .before .before .before .before
+
+-- the machine that is handed in, and the image
+abbrev handed : tie.After-judge → Machine
 handed c =
-    let a = c .args in
-    machine (a .control) (a .settings .now)
-    (stores (a .gprs .now) (a .config .now) (a .dest .now) (a .marks .now) (a .src-a .now) (a .src-b .now))
+    let a = start c .args in
+    machine (a .control) (a .settings .now) (a .gprs .now) (a .config .now) (a .dest .now) (a .marks .now) (a .src-a .now) (a .src-b .now)
 
-judged : (c : tie.After-judge) → toldLoad (c .judge .result) ≡ loadCheck (sized (handed (c .before .before .before .before .before .before .before .before .before .before .before .before .before .before .before .before .before))) (c .before .before .before .before .before .before .before .before .before .before .before .before .before .before .before .before .before .args .bytes .now)
-judged c = c .judge .ensures ∙ ap (λ (f : Bool). loadCheck f (c .before .before .before .before .before .before .before .before .before .before .before .before .before .before .before .before .before .args .bytes .now)) (c .before .machine-sized .ensures)
+abbrev bytes : tie.After-judge → List ℕ
+bytes c = start c .args .bytes .now
 
-taken : (c : tie.After-enum-told2) → (sized (handed (c .before .before .before .before .before .before .before .before .before .before .before .before .before .before .before .before .before .before .before)) ≡ true) × (accepts image (c .before .before .before .before .before .before .before .before .before .before .before .before .before .before .before .before .before .before .before .args .bytes .now) ≡ true)
-taken c = taken-means (sized (handed (c .before .before .before .before .before .before .before .before .before .before .before .before .before .before .before .before .before .before .before))) (c .before .before .before .before .before .before .before .before .before .before .before .before .before .before .before .before .before .before .before .args .bytes .now) (sym (judged (c .before .before)) ∙ ap toldLoad (c .enum-told2 .given .1))
+judged : (c : tie.After-judge) → toldLoad (c .judge .result) ≡ loadCheck (sized (handed c)) (bytes c)
+judged c = c .judge .ensures ∙ ap (λ (f : Bool). loadCheck f (bytes c)) (c .before .machine-sized .ensures)
+
+taken : (c : tie.After-enum-told2) → (sized (handed (c .before .before)) ≡ true) × (accepts image (bytes (c .before .before)) ≡ true)
+taken c =
+    let answered = c .before .before in
+    taken-means (sized (handed answered)) (bytes answered) (sym (judged answered) ∙ ap toldLoad (c .enum-told2 .given .1))
 
 read-machine-requires : tie.Need-read-machine-requires
-read-machine-requires c κs = let t = taken (c .before .before .before .before .before .before .before) in let f = sized-facts (handed (c .before .before .before .before .before .before .before .before .before .before .before .before .before .before .before .before .before .before .before .before .before .before .before .before .before .before)) (t .0) in (omega (arith, accepts-whole image (c .before .before .before .before .before .before .before .before .before .before .before .before .before .before .before .before .before .before .before .before .before .before .before .before .before .before .args .bytes .now) (t .1) .0), f .settings, f .gprs, f .config, f .dest, f .marks, f .srcA, f .srcB)
+read-machine-requires c κs =
+    let told = c .before .before .before .before .before .before .before in
+    let t = taken told in
+    let f = sized-facts (handed (told .before .before)) (t .0) in
+    let long = accepts-whole image (bytes (told .before .before)) (t .1) .0 in
+    (omega (arith, long), f .settings, f .gprs, f .config, f .cells, f .marks, f .srcA, f .srcB)
 
 returns : tie.Need-returns
-returns c = load-refused (c .before .before .before .before .before .before .before .before .before .before .before .before .before .before .before .before .before .before .before .args .bytes .now) (handed (c .before .before .before .before .before .before .before .before .before .before .before .before .before .before .before .before .before .before .before)) _ (judged (c .before .before)) _ (c .enum-told .given .1)
+returns c =
+    let answered = c .before .before in
+    load-refused (bytes answered) (handed answered) (judged answered) (c .enum-told .given .1)
 
 returns-2 : tie.Need-returns-2
-returns-2 c = load-taken (c .before .before .before .before .before .before .before .before .before .before .before .before .before .before .before .before .before .before .before .before .before .before .before .before .before .before .before .before .before .before .before .before .before .before .before .before .before .before .before .before .before .args .bytes .now) (handed (c .before .before .before .before .before .before .before .before .before .before .before .before .before .before .before .before .before .before .before .before .before .before .before .before .before .before .before .before .before .before .before .before .before .before .before .before .before .before .before .before .before)) _ (judged (c .before .before .before .before .before .before .before .before .before .before .before .before .before .before .before .before .before .before .before .before .before .before .before .before)) _ (c .before .before .before .before .before .before .before .before .before .before .before .before .before .before .before .before .before .before .before .before .before .before .enum-told2 .given .1) (c .before .before .before .before .before .before .before .before .before .before .before .before .before .before .read-machine .ensures)
+returns-2 c =
+    let read = c .before .before .before .before .before .before .before .before .before .before .before .before .before .before in
+    let told = read .before .before .before .before .before .before .before .before in
+    let answered = told .before .before in
+    load-taken (bytes answered) (handed answered) (judged answered) (told .enum-told2 .given .1) (read .read-machine .ensures)
 
 pub load-spec : {M : Type 1} → statement M
 load-spec =
-    tie.close
-    (tie.spec
-    (λ c κs. search needs)
-    (λ c κs. search needs)
-    (λ c. search needs)
-    (λ c. search needs)
-    read-machine-requires
-    (λ c. search needs)
-    (λ c. search needs)
-    (λ c. search needs)
-    (λ c. search needs)
-    (λ c. search needs)
-    (λ c. search needs)
-    (λ c. search needs)
-    returns
-    (λ c. search needs)
-    (λ c. search needs)
-    (λ c. search needs)
-    (λ c. search needs)
-    (λ c. search needs)
-    (λ c. search needs)
-    (λ c. search needs)
-    returns-2)
+    tie.close (tie.spec (λ c κs. search needs) (λ c κs. search needs) (λ c. search needs) (λ c. search needs) read-machine-requires
+    (λ c. search needs) (λ c. search needs) (λ c. search needs) (λ c. search needs) (λ c. search needs) (λ c. search needs) (λ c. search needs)
+    returns (λ c. search needs) (λ c. search needs) (λ c. search needs) (λ c. search needs) (λ c. search needs) (λ c. search needs)
+    (λ c. search needs) returns-2)

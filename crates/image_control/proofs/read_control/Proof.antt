@@ -1,28 +1,34 @@
-use Rattle.layout.specs.Control.{semaphoreFormat, threadFormat}
-use Rattle.format.proofs.Fields.{inside}
-use Rattle.format.specs.Format.{many, numbers}
-use lib.ListN.{drop}
+use Prim.Native.Nat.{_+_, _*_}
 use borrow.Author.Needs.{needs}
+use Rattle.machine.specs.Sizes.{settingCount, mutexCount, semaphoreCount, bankCount, holderMost}
+use Rattle.format.specs.Format.{many, numbers}
+use Rattle.format.proofs.Fields.{inside, inside-two}
+use Rattle.image_layout.specs.Control.{semaphoreFormat, threadFormat, locksFormat, waitsFormat}
+use Rattle.image_layout.specs.Places.{settingsAt, waitSize}
 use Rattle.image_control.proofs.read_control.Statement.{statement}
 use Rattle.image_control.proofs.read_control.Tie as tie
 
 returns : tie.Need-returns
-returns c = let s = c .before .before .before .before .before .before .before .before .before .before .before .before .before .before .args .s .now in λ i. record { t0 = inside (threadFormat .get) 408 6 s (c .before .before .before .before .before .before .before .before .read-thread .ensures) i; t1 = inside (λ b. threadFormat .get (drop 5 b)) 408 6 s (inside (threadFormat .get) 5 414 s (c .before .before .before .before .before .before .before .read-thread2 .ensures)) i; t2 = inside (λ b. threadFormat .get (drop 10 b)) 408 6 s (inside (threadFormat .get) 10 414 s (c .before .before .before .before .before .before .read-thread3 .ensures)) i; mutexes = inside (numbers 8 1 3 .get) 384 6 s (c .before .before .before .before .before .before .before .before .before .before .before .read-bytes .ensures) i; semaphores = inside (many 8 semaphoreFormat .get) 392 6 s (c .before .before .before .before .before .before .before .before .before .read-semaphores .ensures) i; owners = inside (numbers 4 1 1 .get) 423 6 s (c .before .before .before .before .read-bytes2 .ensures) i; pointers = inside (λ b. numbers 4 1 1 .get (drop 4 b)) 423 6 s (inside (numbers 4 1 1 .get) 4 429 s (c .before .read-bytes3 .ensures)) i }
+returns c =
+    let owners = c .before .before .before .before in
+    let waits = owners .before .before in
+    let locks = waits .before .before .before in
+    let mutexes = locks .before .before in
+    let s = mutexes .before .before .before .args .s .now in
+    let to-waits = locksFormat .size in
+    let to-owners = locksFormat .size + waitsFormat .size in
+    let wait = threadFormat .get in
+    let bank = numbers bankCount 1 1 .get in
+    let w0 = inside wait to-waits settingsAt s (waits .before .before .read-thread .ensures) in
+    let w1 = inside-two wait waitSize to-waits settingsAt s (waits .before .read-thread2 .ensures) in
+    let w2 = inside-two wait (waitSize + waitSize) to-waits settingsAt s (waits .read-thread3 .ensures) in
+    let held = inside (numbers mutexCount 1 holderMost .get) (settingCount * 2) settingsAt s (mutexes .read-bytes .ensures) in
+    let values = inside (many semaphoreCount semaphoreFormat .get) (settingCount * 2 + mutexCount) settingsAt s (locks .read-semaphores .ensures) in
+    let owned = inside bank to-owners settingsAt s (owners .read-bytes2 .ensures) in
+    let pointed = inside-two bank bankCount to-owners settingsAt s (c .before .read-bytes3 .ensures) in
+    λ i. record { t0 = w0 i; t1 = w1 i; t2 = w2 i; mutexes = held i; semaphores = values i; owners = owned i; pointers = pointed i }
 
 pub read-control-spec : {M : Type 1} → statement M
 read-control-spec =
-    tie.close
-    (tie.spec
-    (λ c. search needs)
-    (λ c κs. search needs)
-    (λ c κs. search needs)
-    (λ c κs. search needs)
-    (λ c. search needs)
-    (λ c κs. search needs)
-    (λ c. search needs)
-    (λ c κs. search needs)
-    (λ c. search needs)
-    (λ c κs. search needs)
-    (λ c. search needs)
-    (λ c κs. search needs)
-    returns)
+    tie.close (tie.spec (λ c. search needs) (λ c κs. search needs) (λ c κs. search needs) (λ c κs. search needs) (λ c κs. search needs)
+    (λ c κs. search needs) (λ c. search needs) (λ c κs. search needs) (λ c. search needs) (λ c κs. search needs) returns)

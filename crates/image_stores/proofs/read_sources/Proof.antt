@@ -1,22 +1,20 @@
-use Rattle.layout.proofs.Parts.{read-part}
-use Rattle.format.proofs.Fields.{inside}
-use Rattle.format.specs.Format.{numbers}
-use lib.ListN.{drop}
 use borrow.Author.Needs.{needs}
+use Rattle.machine.specs.Sizes.{sourceCount, cellMost}
+use Rattle.format.proofs.Fields.{both-read, numbers-read}
+use Rattle.image_layout.specs.Image.{sourceRecord}
+use Rattle.image_layout.specs.Places.{sourceAAt, sourceBAt}
 use Rattle.image_stores.proofs.read_sources.Statement.{statement}
 use Rattle.image_stores.proofs.read_sources.Tie as tie
 
 returns : tie.Need-returns
-returns c = let a = c .before .before .before .before .before .before .before .before .before .before .before .args in let s = a .s .now in let x = read-part 3 2048 36173 6 s (c .before .before .before .before .before .before .before .before .before .before .before .pre .1) (c .before .before .before .before .before .before .read-words .ensures) in let y = inside (λ b. numbers 2048 3 524287 .get (drop 6 b)) 6150 36173 s (read-part 3 2048 42323 6 s (c .before .before .before .before .before .before .before .before .before .before .before .pre .2) (c .before .before .read-words2 .ensures)) in λ i. (x i, y i)
+returns c =
+    let second = c .before .before in
+    let first = second .before .before .before .before in
+    let start = first .before .before .before .before .before in
+    let s = start .args .s .now in
+    both-read (sourceRecord 6) (sourceRecord 7) sourceAAt s
+    (numbers-read 6 3 cellMost sourceCount sourceAAt s (start .pre .1) (first .read-words .ensures))
+    (numbers-read 7 3 cellMost sourceCount sourceBAt s (start .pre .2) (second .read-words2 .ensures))
 
 pub read-sources-spec : {M : Type 1} → statement M
-read-sources-spec =
-    tie.close
-    (tie.spec
-    (λ c. search needs)
-    (λ c κs. search needs)
-    (λ c. search needs)
-    (λ c κs. search needs)
-    (λ c. search needs)
-    (λ c. search needs)
-    returns)
+read-sources-spec = tie.close (tie.spec (λ c κs. search needs) (λ c κs. search needs) (λ c. search needs) (λ c. search needs) returns)

@@ -1,18 +1,26 @@
-use Rattle.run_rules.proofs.Calls.{granted-ready, call-refused, call-runs}
-use Rattle.run_rules.specs.Run.{summaryOf}
 use mathlib.Core.Path.{ap, _∙_}
+use Rattle.run_rules.specs.Run.{summaryOf}
+use Rattle.run_rules.proofs.Calls.{granted-ready, call-refused, call-runs}
 use borrow.Author.Needs.{needs}
 use Rattle.run.proofs.run.Statement.{statement}
 use Rattle.run.proofs.run.Tie as tie
 
 take-turns-requires : tie.Need-take-turns-requires
-take-turns-requires c κs = granted-ready _ _ _ _ _ (c .before .before .before .before .before .before .before .before .check-call .ensures) (c .before .before .before .before .before .before .enum-told .given .1)
+take-turns-requires c κs =
+    let k = c .before .before .before .before .before .before .before .before in
+    record { cells = k .before .before .before .before .before .before .before .before .before .before .before .before .before .before .before .before .before .args .dest .now; ready = granted-ready _ _ _ _ _ (k .check-call .ensures) (c .before .before .before .before .before .before .enum-told .given .1) }
 
 returns : tie.Need-returns
-returns c = ap summaryOf (call-refused _ _ _ _ (c .before .before .before .check-call .result) (c .before .before .before .check-call .ensures) _ (c .before .k .given .1))
+returns c =
+    let k = c .before .before .before .check-call in
+    ap summaryOf (call-refused _ _ _ _ (k .result) (k .ensures) _ (c .before .k .given .1))
 
 returns-2 : tie.Need-returns-2
-returns-2 c = c .before .before .before .before .before .before .before .before .before .before .before .before .take-turns .ensures ∙ ap summaryOf (call-runs _ _ _ _ (c .before .before .before .before .before .before .before .before .before .before .before .before .before .before .before .before .before .before .before .before .before .check-call .result) (c .before .before .before .before .before .before .before .before .before .before .before .before .before .before .before .before .before .before .before .before .before .check-call .ensures) (c .before .before .before .before .before .before .before .before .before .before .before .before .before .before .before .before .before .before .before .enum-told .given .1))
+returns-2 c =
+    let t = c .before .before .before .before .before .before .before .before .before .before .before .before in
+    let k = t .before .before .before .before .before .before .before .before .before in
+    t .take-turns .ensures (k .before .before .before .before .before .before .before .before .before .before .before .before .before .before .before .before .before .args .dest .now)
+    ∙ ap summaryOf (call-runs _ _ _ _ (k .check-call .result) (k .check-call .ensures) (t .before .before .before .before .before .before .before .enum-told .given .1))
 
 pub run-spec : {M : Type 1} → statement M
 run-spec =

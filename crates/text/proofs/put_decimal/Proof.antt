@@ -1,21 +1,30 @@
 use Rattle.text.proofs.Digits.{count-at-most, digits-long}
-use Rattle.text.specs.Decimal.{digitCount}
-use mathlib.Core.Path.{sym, ap, _∙_}
-use Prim.Native.Nat.{ℕ, _+_}
+use Rattle.text.specs.Decimal.{digitCount, digitsMost}
+use mathlib.Core.Path.{_≡_, sym, ap, _∙_}
+use Prim.Native.Nat.{ℕ, _+_, _≤_}
 use native.Mathlib.Omega.{arith}
 use borrow.Author.Needs.{needs}
 use Rattle.text.proofs.put_decimal.Statement.{statement}
 use Rattle.text.proofs.put_decimal.Tie as tie
 
+-- there are at most so many digits
+few : (n k : ℕ) → k ≡ digitCount digitsMost n → k ≤ digitsMost
+few n k e = omega (arith, count-at-most digitsMost n)
+
 put-digits-requires : tie.Need-put-digits-requires
-put-digits-requires c κs = omega (arith, c .before .digit-count .ensures, count-at-most 20 (c .before .before .before .args .n))
+put-digits-requires c κs = omega (arith, few _ _ (c .before .digit-count .ensures))
 
 add-result : tie.Need-add-result
-add-result c = omega (arith, c .before .before .before .before .digit-count .ensures, count-at-most 20 (c .before .before .before .before .before .before .args .n))
+add-result c = omega (arith, few _ _ (c .before .before .before .before .digit-count .ensures))
 
 returns : tie.Need-returns
-returns c = (record { placed = ap (λ (x : ℕ). c .before .before .before .before .before .before .args .at + x) (c .before .before .before .before .digit-count .ensures ∙ sym (digits-long (digitCount 20 (c .before .before .before .before .before .before .args .n)) (c .before .before .before .before .before .before .args .n))); list = rw (c .before .before .before .before .digit-count .ensures) at (c .before .before .put-digits .ensures) }, omega (arith, c .before .before .before .before .digit-count .ensures, count-at-most 20 (c .before .before .before .before .before .before .args .n)))
+returns c =
+    let written = c .before .before in
+    let counted = written .before .before in
+    let e = counted .digit-count .ensures in
+    let a = counted .before .before .args in
+    let long = e ∙ sym (digits-long (digitCount digitsMost (a .n)) (a .n)) in
+    (record { placed = ap (λ (x : ℕ). a .at + x) long; list = rw e at (written .put-digits .ensures) }, omega (arith, few _ _ e))
 
 pub put-decimal-spec : {M : Type 1} → statement M
-put-decimal-spec =
-    tie.close (tie.spec (λ c κs. search needs) put-digits-requires add-result (λ c. search needs) returns)
+put-decimal-spec = tie.close (tie.spec (λ c κs. search needs) put-digits-requires add-result (λ c. search needs) returns)

@@ -4,7 +4,7 @@ use Rattle.bits.specs.Overwrite.{over}
 use lib.ListN.{length, length-set}
 use native.Mathlib.Omega.{arith}
 use mathlib.Core.Path.{_≡_, refl, sym, _∙_}
-use Prim.Native.Nat.{_+_, _≤_, _<_, _-_}
+use Prim.Native.Nat.{_≤_}
 use Rattle.text.proofs.put_digits.Statement.{statement}
 use Rattle.text.proofs.put_digits.Tie as tie
 
@@ -15,49 +15,18 @@ Inv-loop out₀ at k n m₀ left₀ out m left =
 abbrev μ-loop : tie.MeasureT-loop
 μ-loop out₀ at k n m₀ left₀ out m left = left
 
-loop-holds : tie.Need-loop-holds Inv-loop μ-loop
-loop-holds c = (omega arith, refl, refl)
-
-sub-left : tie.Need-sub-left Inv-loop μ-loop
-sub-left c = omega arith
-
-add-out : tie.Need-add-out Inv-loop μ-loop
-add-out c = omega arith
-
-cast-out : tie.Need-cast-out Inv-loop μ-loop
-cast-out c = omega arith
-
-add-out-2 : tie.Need-add-out-2 Inv-loop μ-loop
-add-out-2 c = omega arith
-
-slice-write-out : tie.Need-slice-write-out Inv-loop μ-loop
-slice-write-out c = omega arith
-
-loop-less : tie.Need-loop-less Inv-loop μ-loop
-loop-less c = omega arith
-
 loop-again : tie.Need-loop-again Inv-loop μ-loop
-loop-again c = (omega arith, simp length-set (c .before .loop .inv .1), digits-next (c .before .loop .out) (c .before .before .args .at) (c .before .loop .left) (c .before .loop .m) (c .loop-test .taken) (omega arith) ∙ c .before .loop .inv .2)
-
-same-length : tie.Need-same-length Inv-loop μ-loop
-same-length c = c .before .loop .inv .1
+loop-again c =
+    let l = c .before .loop in
+    let next = digits-next (l .out) (c .before .before .args .at) (l .left) (l .m) (c .loop-test .taken) (omega arith) in
+    (omega arith, simp length-set (l .inv .1), next ∙ l .inv .2)
 
 returns : tie.Need-returns Inv-loop μ-loop
-returns c = sym (digits-none (c .before .loop .out) (c .before .before .args .at) (c .before .loop .left) (c .before .loop .m) (omega arith)) ∙ c .before .loop .inv .2
+returns c =
+    let l = c .before .loop in
+    sym (digits-none (l .out) (c .before .before .args .at) (l .left) (l .m) (omega arith)) ∙ l .inv .2
 
 pub put-digits-spec : {M : Type 1} → statement M
 put-digits-spec =
-    tie.close
-    (tie.spec
-    Inv-loop
-    μ-loop
-    loop-holds
-    sub-left
-    add-out
-    cast-out
-    add-out-2
-    slice-write-out
-    loop-less
-    loop-again
-    same-length
-    returns)
+    tie.close (tie.spec Inv-loop μ-loop (λ c. (omega arith, refl, refl)) (λ c. omega arith) (λ c. omega arith) (λ c. omega arith) (λ c. omega arith)
+    (λ c. omega arith) (λ c. omega arith) loop-again (λ c. c .before .loop .inv .1) returns)

@@ -1,6 +1,6 @@
-use Rattle.records.proofs.Fits.{few}
 use native.Mathlib.Omega.{arith}
 use borrow.Author.Needs.{needs}
+use Rattle.program_records.proofs.Fits.{few}
 use Rattle.expand.proofs.input.read_input.Statement.{statement}
 use Rattle.expand.proofs.input.read_input.Tie as tie
 

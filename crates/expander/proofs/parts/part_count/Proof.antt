@@ -1,6 +1,6 @@
-use Rattle.expander.proofs.MopParts.{parts-1, parts-0}
 use mathlib.Core.Path.{sym}
 use borrow.Author.Needs.{needs}
+use Rattle.expander.proofs.MopParts.{parts-1, parts-0}
 use Rattle.expander.proofs.parts.part_count.Statement.{statement}
 use Rattle.expander.proofs.parts.part_count.Tie as tie
 

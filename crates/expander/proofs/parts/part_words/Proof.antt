@@ -1,12 +1,12 @@
 use borrow.Author.Tests.{ne-eqb}
-use Rattle.expander.proofs.MopParts.{parts-1}
-use Rattle.expander.specs.Parts.{partWords}
 use borrow.Author.Needs.{needs}
+use Rattle.expander.specs.Parts.{partWords}
+use Rattle.expander.proofs.MopParts.{parts-1}
 use Rattle.expander.proofs.parts.part_words.Statement.{statement}
 use Rattle.expander.proofs.parts.part_words.Tie as tie
 
 round-words-requires : tie.Need-round-words-requires
-round-words-requires c κs = let a = c .before .before .args in (c .before .before .pre .0, rw (parts-1 (a .nine .now) (a .word) (c .if1 .taken)) at (c .before .before .pre .1))
+round-words-requires c κs = let s = c .before .before in (s .pre .0, rw (parts-1 (s .args .nine .now) (s .args .word) (c .if1 .taken)) at (s .pre .1))
 
 returns : tie.Need-returns
 unfolding partWords

@@ -1,25 +1,28 @@
-use Rattle.expander.proofs.MopParts.{part-alone, mop-alone, part-words-long, part-small, wrote-taken}
-use Rattle.expander.specs.Parts.{partWords}
-use lib.ListN.{length}
+use mathlib.Core.Path.{ap}
 use native.Mathlib.Omega.{arith}
-use mathlib.Core.Path.{ap, _∙_}
+use lib.ListN.{length}
 use borrow.Author.Needs.{needs}
+use Rattle.expander.proofs.MopParts.{Alone, alone, part-words-long, wrote-taken}
 use Rattle.expander.proofs.parts.put_part.Statement.{statement}
 use Rattle.expander.proofs.parts.put_part.Tie as tie
 
+part : (s : tie.Start) → Alone (s .args .nine .now) (s .args .high) (s .args .word) (s .args .o)
+part s = alone (s .args .nine .now) (s .args .high) (s .args .word) (s .args .o) (s .pre .1) (s .pre .0 .few)
+
 put-stream-requires : tie.Need-put-stream-requires
-put-stream-requires c κs = let a = c .before .before .before .before .before .before .args in let m = a .nine .now in let e = mop-alone (partWords m (a .word) (a .o)) (a .high) (a .word) (c .before .before .before .before .before .before .pre .4) ∙ part-alone m (a .high) (a .word) (a .o) in rw (c .before .before .before .part-words .ensures) (part-words-long m (a .word) (a .o) (c .before .before .before .before .before .before .pre .0), omega (arith, ap length e, part-small m (a .high) (a .word) (a .o) (c .before .before .before .before .before .before .pre .1), c .before .before .before .before .before .before .pre .3))
+put-stream-requires c κs =
+    let w = c .before .before .before in
+    let s = w .before .before .before in
+    let a = s .args in
+    rw (w .part-words .ensures)
+    (part-words-long (a .nine .now) (a .word) (a .o) (s .pre .0 .nine), omega (arith, ap length (part s .given), part s .small, s .pre .0 .part))
 
 returns : tie.Need-returns
-returns c = let a = c .before .before .before .before .before .before .before .before .before .args in let m = a .nine .now in let e = mop-alone (partWords m (a .word) (a .o)) (a .high) (a .word) (c .before .before .before .before .before .before .before .before .before .pre .4) ∙ part-alone m (a .high) (a .word) (a .o) in let w = rw (c .before .before .before .before .before .before .part-words .ensures, e) at (c .before .before .put-stream .ensures .1) in (wrote-taken w, omega (arith, w .placed, part-small m (a .high) (a .word) (a .o) (c .before .before .before .before .before .before .before .before .before .pre .1)))
+returns c =
+    let w = c .before .before .before .before .before .before in
+    let s = w .before .before .before in
+    let wrote = rw (w .part-words .ensures, part s .given) at (c .before .before .put-stream .ensures .1) in
+    (wrote-taken wrote, omega (arith, wrote .placed, part s .small))
 
 pub put-part-spec : {M : Type 1} → statement M
-put-part-spec =
-    tie.close
-    (tie.spec
-    (λ c κs. search needs)
-    (λ c. search needs)
-    (λ c. search needs)
-    put-stream-requires
-    (λ c. search needs)
-    returns)
+put-part-spec = tie.close (tie.spec (λ c κs. search needs) (λ c. search needs) (λ c. search needs) put-stream-requires (λ c. search needs) returns)

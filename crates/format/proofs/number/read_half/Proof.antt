@@ -21,14 +21,4 @@ returns : tie.Need-returns
 returns c = le-two (c .before .before .args .at) (c .before .before .args .s .now)
 
 pub read-half-spec : {M : Type 1} → statement M
-read-half-spec =
-    tie.close
-    (tie.spec
-    (λ c. search needs)
-    cast-low
-    (λ c. search needs)
-    (λ c. search needs)
-    cast-high
-    mul-result
-    add-result
-    returns)
+read-half-spec = tie.close (tie.spec (λ c. search needs) cast-low (λ c. search needs) (λ c. search needs) cast-high mul-result add-result returns)

@@ -1,7 +1,7 @@
-use borrow.Author.Needs.{needs}
 use Prim.Native.Nat.{_-_}
 use native.Mathlib.Omega.{arith}
 use lib.ListN.{length}
+use borrow.Author.Needs.{needs}
 use Rattle.bits.specs.Bytes.{enc}
 use Rattle.bits.proofs.Bytes.{enc-long}
 use Rattle.format.proofs.Runs.{Writing, writing-starts, writing-room, writing-goes, writing-ends}
@@ -14,46 +14,24 @@ Inv-loop out₀ at src p₀ i₀ out p i = Writing (enc 2) 2 out₀ at src out p
 abbrev μ-loop : tie.MeasureT-loop
 μ-loop out₀ at src p₀ i₀ out p i = length src - i
 
-loop-holds : tie.Need-loop-holds Inv-loop μ-loop
-loop-holds c = let a = c .before .before .args in writing-starts (enc 2) 2 (a .out .now) (a .at) (a .src .now) (omega arith)
-
-shared-slice-read-write-half : tie.Need-shared-slice-read-write-half Inv-loop μ-loop
-shared-slice-read-write-half c = omega arith
-
 write-half-requires : tie.Need-write-half-requires Inv-loop μ-loop
-write-half-requires c κs = let a = c .before .before .before .before .before .before .args in let l = c .before .before .before .loop in omega (arith, writing-room (enc 2) 2 (a .out .now) (a .at) (a .src .now) (l .out) (l .p) (l .i) (c .before .before .loop-test .taken) (l .inv))
+write-half-requires c κs = omega (arith, writing-room (c .before .before .before .loop .inv) (c .before .before .loop-test .taken))
 
 add-p : tie.Need-add-p Inv-loop μ-loop
-add-p c = let a = c .before .before .before .before .before .before .before .before .before .args in let l = c .before .before .before .before .before .before .loop in omega (arith, writing-room (enc 2) 2 (a .out .now) (a .at) (a .src .now) (l .out) (l .p) (l .i) (c .before .before .before .before .before .loop-test .taken) (l .inv))
-
-add-i : tie.Need-add-i Inv-loop μ-loop
-add-i c = omega arith
-
-loop-less : tie.Need-loop-less Inv-loop μ-loop
-loop-less c = omega arith
+add-p c =
+    let turn = c .before .before .before .before .before in
+    omega (arith, writing-room (turn .before .loop .inv) (turn .loop-test .taken))
 
 loop-again : tie.Need-loop-again Inv-loop μ-loop
-loop-again c = let a = c .before .before .before .before .before .before .before .before .before .args in let l = c .before .before .before .before .before .before .loop in writing-goes (enc 2) 2 (a .out .now) (a .at) (a .src .now) (l .out) (c .before .before .write-half .last .0) (l .p) (l .i) 0 (c .before .before .before .before .before .loop-test .taken) (l .inv) (c .before .before .write-half .ensures .list) (enc-long 2 _)
-
-same-length : tie.Need-same-length Inv-loop μ-loop
-same-length c = c .before .loop .inv .long
+loop-again c =
+    let wrote = c .before .before in
+    let turn = wrote .before .before .before in
+    writing-goes (turn .before .loop .inv) (turn .loop-test .taken) 0 (wrote .write-half .ensures .list) (enc-long _ _)
 
 returns : tie.Need-returns Inv-loop μ-loop
-returns c = let a = c .before .before .before .before .args in let l = c .before .loop in writing-ends (enc 2) 2 (a .out .now) (a .at) (a .src .now) (enc-long 2) (l .out) (l .p) (l .i) (c .loop-test .left) (l .inv)
+returns c = writing-ends (c .before .loop .inv) (enc-long _) (c .loop-test .left)
 
 pub write-halves-spec : {M : Type 1} → statement M
 write-halves-spec =
-    tie.close
-    (tie.spec
-    Inv-loop
-    μ-loop
-    loop-holds
-    (λ c. search needs)
-    shared-slice-read-write-half
-    write-half-requires
-    add-p
-    add-i
-    loop-less
-    loop-again
-    same-length
-    returns)
+    tie.close (tie.spec Inv-loop μ-loop (λ c. writing-starts (omega arith)) (λ c. search needs) (λ c. omega arith) write-half-requires add-p
+    (λ c. omega arith) (λ c. omega arith) loop-again (λ c. c .before .loop .inv .long) returns)

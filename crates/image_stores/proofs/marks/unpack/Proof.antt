@@ -4,8 +4,8 @@ use native.Mathlib.Omega.{arith}
 use lib.ListN.{length, length-set}
 use Rattle.bits.specs.Overwrite.{over}
 use Rattle.bits.proofs.Overwrite.{over-none}
-use Rattle.layout.specs.Marks.{unpack}
-use Rattle.layout.proofs.MarkLaws.{unpack-next}
+use Rattle.image_layout.specs.Marks.{unpack}
+use Rattle.image_layout.proofs.MarkLaws.{unpack-next}
 use Rattle.image_stores.proofs.marks.unpack.Statement.{statement}
 use Rattle.image_stores.proofs.marks.unpack.Tie as tie
 
@@ -17,41 +17,24 @@ abbrev μ-loop : tie.MeasureT-loop
 μ-loop b marks₀ at v₀ i₀ marks v i = 8 - i
 
 loop-holds : tie.Need-loop-holds Inv-loop μ-loop
-loop-holds c = let a = c .args in let f : a .at + 0 ≡ a .at = omega arith in (omega arith, refl, rw f)
-
-add-marks : tie.Need-add-marks Inv-loop μ-loop
-add-marks c = omega arith
-
-slice-write-marks : tie.Need-slice-write-marks Inv-loop μ-loop
-slice-write-marks c = omega arith
-
-add-i : tie.Need-add-i Inv-loop μ-loop
-add-i c = omega arith
-
-loop-less : tie.Need-loop-less Inv-loop μ-loop
-loop-less c = omega arith
+loop-holds c =
+    let f : c .args .at + 0 ≡ c .args .at = omega arith in
+    (omega arith, refl, rw f)
 
 loop-again : tie.Need-loop-again Inv-loop μ-loop
-loop-again c = let a = c .before .before .args in let l = c .before .loop in (omega arith, length-set (l .marks) _ _ ∙ l .inv .1, unpack-next 8 (a .at) (l .i) (l .v) (l .marks) (c .loop-test .taken) (omega arith) ∙ l .inv .2)
-
-same-length : tie.Need-same-length Inv-loop μ-loop
-same-length c = c .before .loop .inv .1
+loop-again c =
+    let l = c .before .loop in
+    let next = unpack-next 8 (c .before .before .args .at) (l .i) (l .v) (l .marks) (c .loop-test .taken) (omega arith) in
+    (omega arith, length-set (l .marks) _ _ ∙ l .inv .1, next ∙ l .inv .2)
 
 returns : tie.Need-returns Inv-loop μ-loop
 unfolding unpack
-returns c = let a = c .before .before .args in let l = c .before .loop in let e : 8 - l .i ≡ 0 = omega arith in sym (over-none (l .marks) (a .at + l .i)) ∙ rw e at (l .inv .2)
+returns c =
+    let l = c .before .loop in
+    let e : 8 - l .i ≡ 0 = omega arith in
+    sym (over-none (l .marks) (c .before .before .args .at + l .i)) ∙ rw e at (l .inv .2)
 
 pub unpack-spec : {M : Type 1} → statement M
 unpack-spec =
-    tie.close
-    (tie.spec
-    Inv-loop
-    μ-loop
-    loop-holds
-    add-marks
-    slice-write-marks
-    add-i
-    loop-less
-    loop-again
-    same-length
-    returns)
+    tie.close (tie.spec Inv-loop μ-loop loop-holds (λ c. omega arith) (λ c. omega arith) (λ c. omega arith) (λ c. omega arith) loop-again
+    (λ c. c .before .loop .inv .1) returns)

@@ -1,4 +1,3 @@
-use Rattle.format.proofs.Writes.{wrote-to}
 use Prim.Native.Nat.{_+_, _-_, _<_}
 use mathlib.Core.Path.{ap, _∙_}
 use mathlib.Core.List.{[]}
@@ -6,61 +5,44 @@ use native.Mathlib.Omega.{arith}
 use lib.ListN.{length, getD, set}
 use Rattle.bits.proofs.Bytes.{enc-long}
 use Rattle.format.proofs.Joins.{store-byte}
+use Rattle.format.proofs.Writes.{wrote-to}
 use Rattle.format.proofs.Runs.{Writing, writing-starts, writing-room, writing-goes, writing-ends}
-use Rattle.layout.specs.Marks.{pack, eight, eights}
-use Rattle.layout.proofs.MarkLaws.{eights-long, eight-at, pack-lt}
+use Rattle.image_layout.specs.Marks.{pack, eight, eights}
+use Rattle.image_layout.specs.Image.{marksSize}
+use Rattle.image_layout.proofs.MarkLaws.{eights-long, eight-at, pack-lt}
 use Rattle.image_stores.proofs.marks.write_marks.Statement.{statement}
 use Rattle.image_stores.proofs.marks.write_marks.Tie as tie
 
 abbrev Inv-loop : tie.InvT-loop
-Inv-loop out₀ at marks p₀ i₀ out p i = Writing (eight .put) 1 out₀ at (eights 128 marks) out p i
+Inv-loop out₀ at marks p₀ i₀ out p i = Writing (eight .put) 1 out₀ at (eights marksSize marks) out p i
 
 abbrev μ-loop : tie.MeasureT-loop
-μ-loop out₀ at marks p₀ i₀ out p i = 128 - i
+μ-loop out₀ at marks p₀ i₀ out p i = marksSize - i
 
 loop-holds : tie.Need-loop-holds Inv-loop μ-loop
-loop-holds c = let a = c .before .before .args in writing-starts (eight .put) 1 (a .out .now) (a .at) (eights 128 (a .marks .now)) (omega (arith, eights-long 128 (a .marks .now)))
+loop-holds c = writing-starts (omega (arith, eights-long marksSize (c .before .before .args .marks .now)))
 
-mul-packed : tie.Need-mul-packed Inv-loop μ-loop
-mul-packed c = omega arith
-
-packed-requires : tie.Need-packed-requires Inv-loop μ-loop
-packed-requires c κs = omega arith
-
-slice-write-out : tie.Need-slice-write-out Inv-loop μ-loop
-slice-write-out c = let a = c .before .before .before .before .before .args in let l = c .before .before .loop in omega (arith, eights-long 128 (a .marks .now), writing-room (eight .put) 1 (a .out .now) (a .at) (eights 128 (a .marks .now)) (l .out) (l .p) (l .i) (omega (arith, eights-long 128 (a .marks .now))) (l .inv))
-
-add-p : tie.Need-add-p Inv-loop μ-loop
-add-p c = let a = c .before .before .before .before .before .args in let l = c .before .before .loop in omega (arith, writing-room (eight .put) 1 (a .out .now) (a .at) (eights 128 (a .marks .now)) (l .out) (l .p) (l .i) (omega (arith, eights-long 128 (a .marks .now))) (l .inv))
-
-add-i : tie.Need-add-i Inv-loop μ-loop
-add-i c = omega arith
-
-loop-less : tie.Need-loop-less Inv-loop μ-loop
-loop-less c = omega arith
+-- there is room for the next byte
+room : (c : tie.After-packed Inv-loop μ-loop) → c .before .before .loop .p < length (c .before .before .loop .out)
+room c =
+    let l = c .before .before .loop in
+    let long = eights-long marksSize (c .before .before .before .before .before .args .marks .now) in
+    omega (arith, long, writing-room (l .inv) (omega (arith, long)), l .inv .long)
 
 loop-again : tie.Need-loop-again Inv-loop μ-loop
-loop-again c = let a = c .before .before .before .before .before .args in let l = c .before .before .loop in let h : l .i < length (eights 128 (a .marks .now)) = omega (arith, eights-long 128 (a .marks .now)) in let room = writing-room (eight .put) 1 (a .out .now) (a .at) (eights 128 (a .marks .now)) (l .out) (l .p) (l .i) h (l .inv) in let v = pack 8 (getD (eights 128 (a .marks .now)) (l .i) []) in writing-goes (eight .put) 1 (a .out .now) (a .at) (eights 128 (a .marks .now)) (l .out) _ (l .p) (l .i) [] h (l .inv) (ap (set (l .out) (l .p)) (c .packed .ensures ∙ eight-at 128 (l .i) (a .marks .now) (omega arith)) ∙ store-byte (l .out) (l .p) v (omega arith) (pack-lt 8 _)) (enc-long 1 v)
-
-same-length : tie.Need-same-length Inv-loop μ-loop
-same-length c = c .before .loop .inv .long
+loop-again c =
+    let l = c .before .before .loop in
+    let marks = c .before .before .before .before .before .args .marks .now in
+    let v = pack 8 (getD (eights marksSize marks) (l .i) []) in
+    let byte = ap (set (l .out) (l .p)) (c .packed .ensures ∙ eight-at marksSize (l .i) marks (omega arith)) in
+    writing-goes (l .inv) (omega (arith, eights-long marksSize marks)) [] (byte ∙ store-byte (l .out) (l .p) v (room c) (pack-lt 8 _)) (enc-long 1 v)
 
 returns : tie.Need-returns Inv-loop μ-loop
-returns c = let a = c .before .before .before .before .args in let l = c .before .loop in wrote-to (a .at + 128) (omega (arith, eights-long 128 (a .marks .now))) (writing-ends (eight .put) 1 (a .out .now) (a .at) (eights 128 (a .marks .now)) (λ m. enc-long 1 (pack 8 m)) (l .out) (l .p) (l .i) (omega (arith, eights-long 128 (a .marks .now))) (l .inv))
+returns c =
+    let long = eights-long marksSize (c .before .before .before .before .args .marks .now) in
+    wrote-to _ (omega (arith, long)) (writing-ends (c .before .loop .inv) (λ m. enc-long 1 (pack 8 m)) (omega (arith, long)))
 
 pub write-marks-spec : {M : Type 1} → statement M
 write-marks-spec =
-    tie.close
-    (tie.spec
-    Inv-loop
-    μ-loop
-    loop-holds
-    mul-packed
-    packed-requires
-    slice-write-out
-    add-p
-    add-i
-    loop-less
-    loop-again
-    same-length
-    returns)
+    tie.close (tie.spec Inv-loop μ-loop loop-holds (λ c. omega arith) (λ c κs. omega arith) room (λ c. omega (arith, room c)) (λ c. omega arith)
+    (λ c. omega arith) loop-again (λ c. c .before .loop .inv .long) returns)

@@ -1,2 +1,0 @@
-pub mod Owners
-pub mod Banks

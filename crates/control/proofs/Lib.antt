@@ -1,3 +1,0 @@
-pub mod Keeps
-pub mod Dropping
-pub mod Offering

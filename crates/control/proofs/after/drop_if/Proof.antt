@@ -1,9 +1,0 @@
-use borrow.Author.Needs.{needs}
-use Rattle.control.proofs.after.drop_if.Statement.{statement}
-use Rattle.control.proofs.after.drop_if.Tie as tie
-
-returns : tie.Need-returns
-returns c = rw (c .before .if1 .taken) (c .with-wait .ensures)
-
-pub drop-if-spec : {M : Type 1} → statement M
-drop-if-spec = tie.close (tie.spec (λ c κs. search needs) returns (λ c. search needs))

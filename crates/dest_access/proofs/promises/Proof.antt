@@ -1,9 +1,0 @@
-use Rattle.dest_access.proofs.DestBack.{dest-promises}
-use Rattle.dest_access.proofs.promises.Statement.{statement}
-use Rattle.dest_access.proofs.promises.Tie as tie
-
-returns : tie.Need-returns
-returns c = dest-promises
-
-pub promises-spec : {M : Type 1} → statement M
-promises-spec = tie.close (tie.spec returns)

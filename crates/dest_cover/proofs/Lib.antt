@@ -1,4 +1,0 @@
-pub mod Tests
-pub mod Cover
-pub mod Apart
-pub mod Halves

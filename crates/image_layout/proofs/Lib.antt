@@ -1,0 +1,4 @@
+pub mod MarkLaws
+pub mod ControlLaws
+pub mod ImageLaws
+pub mod SoundLaws

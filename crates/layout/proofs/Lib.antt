@@ -1,4 +1,0 @@
-pub mod Parts
-pub mod MarkLaws
-pub mod ControlLaws
-pub mod ImageLaws

@@ -1,4 +1,0 @@
-pub mod Number
-pub mod Made
-pub mod Lent
-pub mod Parts

@@ -1,0 +1,5 @@
+pub mod Telling
+pub mod Keeping
+pub mod Loading
+pub mod Splitting
+pub mod Longer

@@ -1,4 +1,0 @@
-pub mod Folds
-pub mod Surveys
-pub mod Passing
-pub mod Back

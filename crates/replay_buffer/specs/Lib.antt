@@ -1,4 +1,0 @@
-pub mod Replay
-pub mod Counts
-pub mod Passing
-pub mod Promises

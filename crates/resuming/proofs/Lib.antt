@@ -1,4 +1,0 @@
-pub mod Keeping
-pub mod Loading
-pub mod Splitting
-pub mod Longer

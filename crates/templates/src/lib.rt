@@ -1,4 +1,0 @@
-// The two templates of a MOP, written out word by word (document 01, "Expander").
-pub mod put;
-pub mod template_0;
-pub mod template_1;

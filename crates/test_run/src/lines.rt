@@ -1,0 +1,43 @@
+// The printed lines.
+use libc::STDOUT_FILENO;
+use machine::refusal::refusal_number;
+use run::Ran;
+use run_order::cursor::Cursor;
+use run_order::ending::Ending;
+
+fn write_text(words: &[u8]) {
+    io::write_all(STDOUT_FILENO, words);
+}
+
+fn write_number(start: &[u8], n: u64) {
+    write_text(start);
+    io::print_decimal(STDOUT_FILENO, n);
+}
+
+fn write_ending(e: Ending) {
+    match e {
+        Ending::Finished => write_text(b"finished"),
+        Ending::Stuck => write_text(b"stuck"),
+        Ending::BudgetUsed => write_text(b"budget"),
+        Ending::WordRefused(r) => write_number(b"refused ", refusal_number(r) as u64),
+        Ending::CallRefused(r) => write_number(b"rejected ", refusal_number(r) as u64),
+    }
+}
+
+fn write_cursor(c: Cursor) {
+    write_number(b" at ", c.at0 as u64);
+    write_number(b" ", c.at1 as u64);
+    write_number(b" ", c.at2 as u64);
+    write_number(b" next ", c.next as u64);
+}
+
+// `END turns N at N N N next N machine D`.
+pub(crate) fn write_line(ran: Ran, digest: u32) {
+    let answer = ran.answer;
+    let cursor = ran.cursor;
+    write_ending(answer);
+    write_number(b" turns ", ran.turns as u64);
+    write_cursor(cursor);
+    write_number(b" machine ", digest as u64);
+    write_text(b"\n");
+}
