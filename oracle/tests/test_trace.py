@@ -98,8 +98,8 @@ class Trace(unittest.TestCase):
         self.assertEqual(list(missing((TOP / 'docs/TRACE.md').read_text())), [])
 
     def test_a_wrong_name_is_seen(self):
-        self.assertEqual(list(missing('gate/specs/Waits: `holdsLater`, `holdsNow`')), ['gate/specs/Waits: holdsLater'])
-        self.assertEqual(list(missing('gate/specs/Later: `holdsNow`')), ['gate/specs/Later: holdsNow'])
+        self.assertEqual(list(missing('word_rules/specs/Waits: `holdsLater`, `holdsNow`')), ['word_rules/specs/Waits: holdsLater'])
+        self.assertEqual(list(missing('word_rules/specs/Later: `holdsNow`')), ['word_rules/specs/Later: holdsNow'])
         self.assertEqual(list(missing('oracle/image: `SIZE`, `LATER`')), ['oracle/image: LATER'])
 
     def test_a_wrong_program_is_seen(self):
@@ -107,12 +107,12 @@ class Trace(unittest.TestCase):
 
     def test_an_imported_name_is_seen(self):
         self.assertIn('Stepped', (TOP / 'crates/step/src/lib.rt').read_text())
-        self.assertEqual(list(missing('step/src/lib: `Stepped`; control/src/lib: `Stepped`')), ['step/src/lib: Stepped'])
-        self.assertIn('flagsIn', (TOP / 'crates/dest_access/specs/DestRows.antt').read_text())
-        self.assertEqual(list(missing('dest_access/specs/DestRows: `flagsIn`')), ['dest_access/specs/DestRows: flagsIn'])
+        self.assertEqual(list(missing('step/src/lib: `Stepped`; word_rules/src/stepped: `Stepped`')), ['step/src/lib: Stepped'])
+        self.assertIn('flagsIn', (TOP / 'crates/bench_dest/specs/DestRows.antt').read_text())
+        self.assertEqual(list(missing('bench_dest/specs/DestRows: `flagsIn`')), ['bench_dest/specs/DestRows: flagsIn'])
 
     def test_a_wrong_clause_is_seen(self):
-        place = 'matrix_unit/src/marks'
+        place = 'word_cell/src/marks'
         self.assertEqual(list(missing(f'contract `half` of {place}: `zero_marks`')), [])
         self.assertEqual(list(missing(f'contract `third` of {place}: `zero_marks`')), [f'{place}: contract third'])
 
@@ -188,8 +188,8 @@ class Prose(unittest.TestCase):
             self.assertEqual(missing_in_prose((TOP / document).read_text()), [], document)
 
     def test_a_wrong_name_is_seen(self):
-        self.assertEqual(missing_in_prose('`gate/src/lib.rt`, `judge`, `judged`'), ['gate/src/lib: judged'])
-        self.assertEqual(missing_in_prose('`judge`, `holdsNow`, `gate/specs/Waits.antt`'), ['gate/specs/Waits: judge'])
+        self.assertEqual(missing_in_prose('`word_waits/src/lib.rt`, `judge`, `judged`'), ['word_waits/src/lib: judged'])
+        self.assertEqual(missing_in_prose('`judge`, `holdsNow`, `word_rules/specs/Waits.antt`'), ['word_rules/specs/Waits: judge'])
         self.assertEqual(missing_in_prose('`Control` (`step/src/lib.rt`)'), ['step/src/lib: Control'])
 
 

@@ -2,8 +2,7 @@
 ghost use mathlib.Core.Path.{_≡_};
 ghost use Rattle.machine.specs.Units.{gpr, gprPlace};
 ghost use Rattle.machine.specs.Answers.{accepted, told, call};
-ghost use Rattle.bench_gprs.specs.Gprs.{gprCheck, toldValue, readGprOf, writeGprOf};
-ghost use Rattle.bench_gprs.specs.Gprs.{toldPlace};
+ghost use Rattle.bench_gprs.specs.Gprs.{gprCheck, toldValue, readGprOf, writeGprOf, toldPlace};
 ghost use Rattle.bench_gprs.specs.Promises.{GprPromises};
 use machine::access::Access;
 use machine::refusal::Refusal;

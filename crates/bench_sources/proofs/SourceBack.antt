@@ -10,8 +10,7 @@ use borrow.Author.Tests.{eq-eqb, le-leb, eqb-true, eqb-false}
 use Rattle.bits.proofs.Overwrite.{over-long}
 use Rattle.bits.specs.Overwrite.{over}
 use Rattle.machine.proofs.ControlFacts.{pointer-at}
-use Rattle.machine.specs.Sizes.{sourceRows}
-use Rattle.machine.specs.Sizes.{rowCells, sourceCount}
+use Rattle.machine.specs.Sizes.{sourceRows, rowCells, sourceCount}
 use Rattle.machine.specs.declared.control.Control.{Control}
 use Rattle.machine.specs.Control.{unpackBank}
 use Rattle.machine.specs.Answers.{accepted}

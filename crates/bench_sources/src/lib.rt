@@ -15,7 +15,7 @@ use machine::sizes::ROW_CELLS;
 use machine::sizes::SOURCE_CELLS;
 use machine_formed::cells_formed;
 use machine_formed::control::control_formed;
-use word_waits::owners::unpackers_own;
+use word_waits::unpackers_own;
 
 fn sources_sized(src_a: &[u32], src_b: &[u32], cells: &[u32]) -> bool
     ensures { λ r. ⌜ r ≡ sourcesSized (sources (now («src_a» .entry)) (now («src_b» .entry))) (now (cells .entry)) ⌝ }

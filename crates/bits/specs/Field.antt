@@ -1,6 +1,6 @@
 -- Bits of a number, by place and width.
 use Prim.Native.Nat.{ℕ, _+_, _*_, _/_, _%_, _^_}
-use mathlib.Core.Bool.{Bool, cond}
+use mathlib.Core.Bool.{Bool}
 use lib.Dec.{eqb}
 
 -- the n bits of w from bit i on: bits 16–21 are `field 16 6`

@@ -9,7 +9,7 @@ use lib.Dec.{leb, eqb, lit<}
 use lib.ListN.{length}
 use borrow.Author.Tests.{ne-eqb, leb-true, le-leb}
 use Rattle.bits.specs.Ranges.{allAtMost}
-use Rattle.bits.proofs.Choices.{and-left, and-right, and-intro, cond-both}
+use Rattle.bits.proofs.Choices.{and-left, and-right, cond-both}
 use Rattle.machine.specs.declared.control.Wait.{Wait}
 use Rattle.machine.specs.declared.control.Wait.the-variants.{Clear, OnStall, OnSemaphore}
 use Rattle.machine.specs.declared.control.Semaphore.{Semaphore}

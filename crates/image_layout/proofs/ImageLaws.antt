@@ -4,7 +4,7 @@ use mathlib.Core.Path.{_≡_, refl}
 use mathlib.Core.Bool.{true, _&&_}
 use lib.Dec.{lit<}
 use Rattle.bits.specs.Ranges.{allAtMost}
-use Rattle.bits.proofs.Choices.{and-left, and-right, and-intro}
+use Rattle.bits.proofs.Choices.{and-left, and-right}
 use Rattle.machine.specs.Machine.{Machine}
 use Rattle.machine.specs.Sizes.{gprCount, configCount, destCount, sourceCount, halfMost, cellMost, wordMost}
 use Rattle.machine.specs.Formed.{controlFormed, storesFormed, sized, formed, wellFormed}
@@ -14,7 +14,7 @@ use Rattle.format.specs.Format.{numbers}
 use Rattle.format.proofs.Lawful.{Lawful, both-lawful, numbers-lawful, via-lawful, kind-lawful, kind-ok, numbers-ok, ok-numbers}
 use Rattle.image_layout.specs.Marks.{marksFormat}
 use Rattle.image_layout.specs.Control.{decided, controlFormat}
-use Rattle.image_layout.specs.Image.{gprsRecord, configRecord, destRecord, sourceRecord, marksSize, wordsFormat, destFormat, sourcesFormat, bodies, configKind, machineFrom, bodiesOf, image}
+use Rattle.image_layout.specs.Image.{gprsRecord, configRecord, sourceRecord, marksSize, destFormat, bodies, configKind, machineFrom, bodiesOf, image}
 use Rattle.image_layout.proofs.MarkLaws.{marks-lawful, marks-ok}
 use Rattle.image_layout.proofs.ControlLaws.{control-lawful, control-ok, ok-control}
 

@@ -2,7 +2,7 @@
 use Prim.Native.Nat.{ℕ, _+_, _*_}
 use Rattle.machine.specs.Sizes.{settingCount, mutexCount, bankCount, configCount}
 use Rattle.format.specs.Format.{headBytes}
-use Rattle.image_layout.specs.Control.{locksFormat, waitTriple, waitsFormat, banksFormat}
+use Rattle.image_layout.specs.Control.{locksFormat, waitTriple, waitsFormat}
 use Rattle.image_layout.specs.Image.{controlRecord, gprsRecord, configKind, configRecord, destRecord, marksRecord, sourceRecord}
 
 -- ---- in the first record

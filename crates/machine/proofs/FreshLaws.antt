@@ -1,9 +1,7 @@
 -- A fresh machine is well formed, and each of its entries is zero.
-use Prim.Native.Nat.{ℕ, zero, suc, _<_, _≤_}
+use Prim.Native.Nat.{ℕ, zero, suc}
 use mathlib.Core.Path.{_≡_, refl}
-use mathlib.Core.Bool.{Bool, true, false}
-use mathlib.Core.List.{List}
-use native.Mathlib.Nat.{le-refl}
+use mathlib.Core.Bool.{true, false}
 use native.Mathlib.Omega.{arith}
 use lib.Dec.{eqb}
 use lib.ListN.{length, getD, replicate, length-replicate}
@@ -11,7 +9,6 @@ use borrow.Author.Tests.{eq-eqb}
 use Rattle.bits.specs.Ranges.{allAtMost}
 use Rattle.bits.proofs.Ranges.{at-most-replicate}
 use Rattle.machine.specs.Sizes.{gprCount, settingCount, configCount, destCount, markCount, sourceCount, halfMost, cellMost, wordMost}
-use Rattle.machine.specs.Machine.{Machine, Stores, machine, stores}
 use Rattle.machine.specs.Formed.{controlFormed, semaphoresFormed, storesSized, storesFormed, wellFormed}
 use Rattle.machine.specs.Fresh.{freshControl, freshStores, freshMachine, EveryZero}
 

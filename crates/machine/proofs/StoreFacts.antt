@@ -7,7 +7,7 @@ use lib.Dec.{eqb}
 use lib.ListN.{length}
 use borrow.Author.Tests.{eqb-true, eq-eqb}
 use Rattle.bits.specs.Ranges.{allAtMost}
-use Rattle.bits.proofs.Choices.{and-left, and-right, and-intro}
+use Rattle.bits.proofs.Choices.{and-left, and-right}
 use Rattle.machine.specs.Sizes.{settingCount, gprCount, configCount, destCount, markCount, sourceCount, halfMost, cellMost, wordMost}
 use Rattle.machine.specs.Machine.{Machine, Stores}
 use Rattle.machine.specs.Formed.{sized, storesSized, storesFormed}

@@ -1,5 +1,4 @@
 -- A well-formed machine: each part has its size, and each number is in the range that the table or the image gives it.
-use Prim.Native.Nat.{ℕ}
 use mathlib.Core.Bool.{Bool, true, _&&_}
 use mathlib.Core.List.{List, [], _∷_}
 use lib.Dec.{leb, eqb}

@@ -1,7 +1,6 @@
 // A fresh machine.
 ghost use mathlib.Core.Path.{_≡_};
 ghost use mathlib.Core.Bool.{true};
-ghost use Rattle.machine.specs.Machine.{machine, stores};
 ghost use Rattle.machine.specs.Formed.{wellFormed};
 ghost use Rattle.machine.specs.Fresh.{freshControl, freshMachine, machineOf, EveryZero};
 use crate::control::Control;

@@ -7,7 +7,7 @@ use Rattle.machine.specs.Fresh.{freshMachine}
 use Rattle.machine.specs.Answers.{Told}
 use Rattle.run_order.specs.declared.cursor.Cursor.{Cursor}
 use Rattle.run_order.specs.Ending.{RunEnd}
-use Rattle.run_order.specs.Streams.{Streams}
+use Rattle.run_order.specs.Cursor.{Streams}
 use Rattle.run_rules.specs.Run.{Summary, summary, runOf, summaryOf}
 use Rattle.program_records.specs.declared.script.Script.{Script}
 use Rattle.program_records.specs.declared.script.ScriptRead.{ScriptRead}

@@ -5,7 +5,7 @@ use mathlib.Core.List.{List, _++_}
 use lib.ListN.{length}
 use Rattle.machine.specs.Fresh.{freshMachine}
 use Rattle.run_order.specs.declared.cursor.Cursor.{Cursor}
-use Rattle.run_order.specs.Streams.{Streams}
+use Rattle.run_order.specs.Cursor.{Streams}
 use Rattle.run_rules.specs.Run.{Summary, runOf, summaryOf}
 use Rattle.program_records.specs.declared.counts.Counts.{Counts}
 use Rattle.program_records.specs.declared.script.ScriptRead.{ScriptRead}

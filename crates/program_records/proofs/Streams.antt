@@ -7,7 +7,7 @@ use lib.ListN.{length, take, drop}
 use lib.Seq.{take-at}
 use Rattle.bits.specs.Bytes.{le}
 use Rattle.format.specs.Format.{manyGet, headBytes}
-use Rattle.run_order.specs.Streams.{streams}
+use Rattle.run_order.specs.Cursor.{streams}
 use Rattle.program_records.specs.declared.counts.Counts.{Counts}
 use Rattle.program_records.specs.Counts.{body1, body2, wordsAt, streamsOf}
 

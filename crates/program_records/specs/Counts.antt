@@ -6,7 +6,7 @@ use lib.Dec.{eqb}
 use lib.ListN.{drop}
 use Rattle.bits.specs.Bytes.{le}
 use Rattle.format.specs.Format.{manyGet, headBytes}
-use Rattle.run_order.specs.Streams.{Streams, streams}
+use Rattle.run_order.specs.Cursor.{Streams, streams}
 use Rattle.program_records.specs.declared.head.BodyRead.{BodyRead}
 use Rattle.program_records.specs.declared.head.BodyRead.the-variants.{Body, NoBody}
 use Rattle.program_records.specs.declared.counts.WordsRecord.{WordsRecord}

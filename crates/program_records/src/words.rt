@@ -2,7 +2,7 @@
 ghost use mathlib.Core.Path.{_≡_};
 ghost use Prim.Native.Nat.{_+_, _*_, _≤_};
 ghost use lib.ListN.{length, take};
-ghost use Rattle.run_order.specs.Streams.{streams};
+ghost use Rattle.run_order.specs.Cursor.{streams};
 ghost use Rattle.program_records.specs.Counts.{wordsEnd, wordsAt, streamsOf};
 use crate::counts::Counts;
 use format::HEAD_BYTES;

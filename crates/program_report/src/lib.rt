@@ -1,13 +1,10 @@
 // The lines that the programs print, made in a lent buffer. Each function answers where the next byte goes.
 // All are internal: there is room (no line is over 80 bytes).
-ghost use mathlib.Core.Path.{_≡_};
-ghost use mathlib.Core.List.{_++_};
 ghost use Prim.Native.Nat.{_+_, _≤_};
 ghost use lib.ListN.{length};
 ghost use Rattle.bits.specs.Overwrite.{Wrote};
 ghost use Rattle.run_order.specs.Ending.{toldEnding};
-ghost use Rattle.program_report.specs.Texts.{turnsText, nextText, badRecordText, badImageText};
-ghost use Rattle.program_report.specs.Lines.{lineEnd, numberLine, wordLine, endLine, threadLine, threadLines, runLines};
+ghost use Rattle.program_report.specs.Lines.{numberLine, wordLine, endLine, threadLine, threadLines, runLines};
 use machine::refusal;
 use run_order::cursor::Cursor;
 use run_order::ending::Ending;

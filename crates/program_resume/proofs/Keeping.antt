@@ -6,7 +6,7 @@ use Rattle.machine.specs.Machine.{Machine}
 use Rattle.machine.specs.Formed.{wellFormed}
 use Rattle.machine.specs.Fresh.{machineOf}
 use Rattle.run_order.specs.declared.cursor.Cursor.{Cursor}
-use Rattle.run_order.specs.Streams.{Streams}
+use Rattle.run_order.specs.Cursor.{Streams}
 use Rattle.run_rules.specs.Run.{Summary, runOf, summaryOf}
 use Rattle.run_rules.proofs.Kept.{run-keeps}
 use Rattle.whole_machine.specs.declared.runs.WholeRan.{WholeRan}

@@ -1,10 +1,9 @@
 -- What is printed, by what came of loading the image and of reading the records.
-use Prim.Native.Nat.{ℕ, _+_, _≤_}
+use Prim.Native.Nat.{ℕ, _+_}
 use mathlib.Core.Path.{_≡_, refl, sym, ap, _∙_}
 use mathlib.Core.Bool.{Bool, true, false, cond}
 use mathlib.Core.List.{List, [], _∷_}
 use native.Mathlib.Omega.{arith}
-use lib.ListN.{length}
 use Rattle.bits.specs.Bytes.{Bytes}
 use Rattle.bits.proofs.Choices.{and-left}
 use Rattle.machine.specs.declared.refusal.Refusal.{Refusal}
@@ -16,7 +15,7 @@ use Rattle.machine.specs.Fresh.{freshMachine}
 use Rattle.machine.proofs.FreshLaws.{fresh-formed}
 use Rattle.machine.proofs.Refusals.{nine-means}
 use Rattle.machine.specs.Answers.{Told, accepted, refused, refusal, Call}
-use Rattle.run_order.specs.Streams.{Streams}
+use Rattle.run_order.specs.Cursor.{Streams}
 use Rattle.run_rules.specs.Run.{runOf, summaryOf}
 use Rattle.format.specs.Format.{accepts}
 use Rattle.image_layout.specs.Image.{image, imageSize}
@@ -30,7 +29,6 @@ use Rattle.program_records.specs.declared.resume_script.ResumeRead.{ResumeRead}
 use Rattle.program_records.specs.declared.resume_script.ResumeRead.the-variants.{Whole, Faulty}
 use Rattle.program_records.specs.Counts.{streamsOf}
 use Rattle.program_records.specs.ResumeScript.{resumeScriptOf}
-use Rattle.program_records.proofs.Sound.{whole-facts}
 use Rattle.program_report.specs.Texts.{badRecordText, badImageText}
 use Rattle.program_report.specs.Lines.{numberLine}
 use Rattle.program_resume.specs.Told.{toldOf}

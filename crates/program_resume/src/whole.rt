@@ -8,7 +8,7 @@ ghost use Rattle.machine.specs.declared.refusal.Refusal.the-variants.{BadImage}
 ghost use Rattle.machine.specs.Sizes.{streamMost};
 ghost use Rattle.machine.specs.Formed.{wellFormed};
 ghost use Rattle.machine.specs.Fresh.{machineOf};
-ghost use Rattle.run_order.specs.Streams.{streams};
+ghost use Rattle.run_order.specs.Cursor.{streams};
 ghost use Rattle.run_rules.specs.Run.{runOf, summaryOf};
 ghost use Rattle.image_layout.specs.Image.{imageSize};
 ghost use Rattle.program_records.specs.declared.resume_script.ResumeRead.the-variants.{Whole};

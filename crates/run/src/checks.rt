@@ -2,7 +2,7 @@
 ghost use mathlib.Core.Path.{_≡_};
 ghost use Rattle.machine.specs.Machine.{machine};
 ghost use Rattle.machine.specs.Answers.{told};
-ghost use Rattle.run_order.specs.Streams.{streams};
+ghost use Rattle.run_order.specs.Cursor.{streams};
 ghost use Rattle.run_rules.specs.Checks.{streamsSized, placed, callCheck};
 use machine::access::Access;
 use machine::access::provided;

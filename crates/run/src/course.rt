@@ -3,7 +3,7 @@ ghost use mathlib.Core.Path.{_≡_};
 ghost use mathlib.Core.List.{List};
 ghost use Prim.Native.Nat.{ℕ};
 ghost use Rattle.machine.specs.Machine.{machine};
-ghost use Rattle.run_order.specs.Streams.{streams};
+ghost use Rattle.run_order.specs.Cursor.{streams};
 ghost use Rattle.run_order.specs.Ending.{toldEnding};
 ghost use Rattle.run_rules.specs.Ready.{ReadyApart};
 ghost use Rattle.run_rules.specs.Run.{runFrom, summaryOf, summary};

@@ -4,7 +4,7 @@ mod course;
 
 ghost use mathlib.Core.Path.{_≡_};
 ghost use Rattle.machine.specs.Machine.{machine};
-ghost use Rattle.run_order.specs.Streams.{streams};
+ghost use Rattle.run_order.specs.Cursor.{streams};
 ghost use Rattle.run_order.specs.Ending.{toldEnding};
 ghost use Rattle.run_rules.specs.Run.{runOf, summaryOf, summary};
 use crate::checks::check_call;

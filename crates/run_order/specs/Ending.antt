@@ -11,7 +11,7 @@ use Rattle.run_order.specs.declared.ending.Ending.{Ending}
 use Rattle.run_order.specs.declared.ending.Ending.the-variants.{Finished, Stuck, BudgetUsed, WordRefused, CallRefused}
 use Rattle.run_order.specs.declared.ending.Halt.{Halt}
 use Rattle.run_order.specs.declared.ending.Halt.the-variants.{Ends, GoesOn}
-use Rattle.run_order.specs.Streams.{Streams, usedUp}
+use Rattle.run_order.specs.Cursor.{Streams, usedUp}
 
 -- document 01's *finished*, *stuck*, *budget* and *refused*, the last with the word's number and values
 pub data RunEnd : Type 0 where

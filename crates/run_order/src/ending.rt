@@ -2,10 +2,10 @@
 ghost use mathlib.Core.Path.{_≡_};
 ghost use Prim.Native.Nat.{_<_};
 ghost use Rattle.machine.specs.Outcomes.{toldOutcome};
-ghost use Rattle.run_order.specs.Streams.{streams};
+ghost use Rattle.run_order.specs.Cursor.{streams};
 ghost use Rattle.run_order.specs.Ending.{toldHalt, haltOf, refusedWord, quietAfter};
 use crate::cursor::Cursor;
-use crate::streams::used_up;
+use crate::cursor::used_up;
 use machine::refusal::Outcome;
 use machine::refusal::Refusal;
 

@@ -1,4 +1,3 @@
 // Whose turn is next, which word it offers, and when a run ends (document 01, "A run").
 pub mod cursor;
 pub mod ending;
-pub mod streams;

@@ -15,7 +15,7 @@ use Rattle.machine.specs.declared.access.Access.{Access}
 use Rattle.machine.specs.declared.access.Access.the-variants.{Granted, Refused}
 use Rattle.machine.specs.Answers.{Told, accepted, refusal, told, provided}
 use Rattle.run_order.specs.declared.cursor.Cursor.{Cursor}
-use Rattle.run_order.specs.Streams.{Streams}
+use Rattle.run_order.specs.Cursor.{Streams}
 use Rattle.run_order.specs.Ending.{goesOn}
 use Rattle.run_rules.specs.Checks.{streamsSized, placed, callCheck, callHalt}
 use Rattle.run_rules.specs.Ready.{Lengths, Within, Ready}

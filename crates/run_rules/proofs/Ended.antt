@@ -1,8 +1,8 @@
 -- How a run ends, by induction on the turns left of its budget.
 use Prim.Native.Nat.{ℕ, zero, suc, _+_, _<_, _≤_}
-use mathlib.Core.Path.{_≡_, refl, sym, ap, _∙_}
+use mathlib.Core.Path.{_≡_, refl, ap, _∙_}
 use mathlib.Core.Bool.{Bool, true, false, cond, _&&_}
-use mathlib.Core.List.{List, [], _∷_, _++_}
+use mathlib.Core.List.{List, [], _∷_}
 use mathlib.Core.Logic.{_⊎_, inl, inr}
 use native.Mathlib.Omega.{arith}
 use lib.Dec.{leb, eqb·suc-zero}
@@ -12,22 +12,17 @@ use Rattle.machine.specs.Sizes.{budgetMost}
 use Rattle.machine.specs.Machine.{Machine}
 use Rattle.machine.specs.Formed.{sized, formed}
 use Rattle.machine.specs.Answers.{Told, accepted, refused, provided}
-use Rattle.machine.specs.Outcomes.{Progress, idle, passed, stalled}
-use Rattle.machine.specs.Outcomes.{hasPassed}
+use Rattle.machine.specs.Outcomes.{Progress, idle, passed, stalled, hasPassed}
 use Rattle.word_rules.proofs.Saying.{TwoOrThree}
-use Rattle.step_rules.specs.Step.{offerOf}
 use Rattle.step_rules.proofs.Refusing.{offer-refuses}
 use Rattle.run_order.specs.declared.cursor.Cursor.{Cursor}
-use Rattle.run_order.specs.declared.streams.Offered.{Offered}
-use Rattle.run_order.specs.declared.streams.Offered.the-variants.{NextWord, NoWord}
-use Rattle.run_order.specs.Cursor.{movedOf}
+use Rattle.run_order.specs.declared.cursor.Offered.{Offered}
+use Rattle.run_order.specs.declared.cursor.Offered.the-variants.{NextWord, NoWord}
+use Rattle.run_order.specs.Cursor.{movedOf, Streams, usedUp, nextWord}
 use Rattle.run_order.specs.Ending.{RunEnd, finished, stuck, budgetUsed, wordRefused, Halted, halts, goesOn, haltOf, refusedWord, quietAfter}
-use Rattle.run_order.specs.Streams.{Streams, usedUp, nextWord}
-use Rattle.run_rules.specs.Turn.{Turn, byWord, turnOf}
+use Rattle.run_rules.specs.Run.{Turn, byWord, turnOf, Run, stop, before, unless, runFrom, runOf}
 use Rattle.run_rules.specs.Checks.{streamsSized, placed, callCheck, callHalt}
-use Rattle.run_rules.specs.Run.{Run, stop, before, unless, runFrom, runOf}
-use Rattle.run_rules.specs.Observed.{machineLeft, cursorLeft}
-use Rattle.run_rules.specs.Ended.{quietLeft, MayFollow, EachDue, ByWord, ByCall, EndsAs, Ended}
+use Rattle.run_rules.specs.Ended.{quietLeft, EachDue, ByWord, EndsAs, Ended}
 use Rattle.run_rules.proofs.Turning.{turn-moved}
 use Rattle.run_rules.proofs.Waiting.{turn-keeps}
 

@@ -13,10 +13,9 @@ use Rattle.run_order.specs.declared.cursor.Cursor.{Cursor}
 use Rattle.run_order.specs.declared.ending.Ending.{Ending}
 use Rattle.run_order.specs.declared.ending.Halt.{Halt}
 use Rattle.run_order.specs.declared.ending.Halt.the-variants.{Ends, GoesOn}
-use Rattle.run_order.specs.Streams.{Streams}
-use Rattle.run_rules.specs.Turn.{Turn, turned, turnOf}
+use Rattle.run_order.specs.Cursor.{Streams}
+use Rattle.run_rules.specs.Run.{Turn, turned, turnOf, Run, before, runFrom, Summary, summary, summaryOf}
 use Rattle.run_order.specs.Ending.{haltOf, refusedWord, quietAfter, goesOn, toldEnding, toldHalt}
-use Rattle.run_rules.specs.Run.{Run, before, runFrom, Summary, summary, summaryOf}
 use Rattle.run_rules.specs.Ready.{Ready, ReadyApart}
 use Rattle.run_rules.proofs.Halting.{due-after, run-halts, run-refused, run-on}
 use Rattle.run_rules.proofs.Turning.{turn-ready, ready-parts}

@@ -10,10 +10,9 @@ use Rattle.machine.specs.Answers.{Told, accepted}
 use Rattle.run_order.specs.declared.cursor.Cursor.{Cursor}
 use Rattle.run_order.specs.declared.ending.Halt.{Halt}
 use Rattle.run_order.specs.declared.ending.Halt.the-variants.{GoesOn}
-use Rattle.run_order.specs.Streams.{Streams, usedUp}
+use Rattle.run_order.specs.Cursor.{Streams, usedUp}
 use Rattle.run_order.specs.Ending.{haltOf, refusedWord, quietAfter, RunEnd, halts, goesOn, finished, stuck, budgetUsed, toldHalt}
-use Rattle.run_rules.specs.Turn.{turnOf}
-use Rattle.run_rules.specs.Run.{stop, before, runFrom}
+use Rattle.run_rules.specs.Run.{turnOf, stop, before, runFrom}
 
 -- what is so before a turn that is taken
 pub record TurnDue (s : Streams) (c : Cursor) (quiet left : ℕ) : Type 0 where

@@ -11,14 +11,12 @@ use Rattle.machine.specs.Outcomes.{Progress}
 use Rattle.step_rules.specs.Alike.{Agree}
 use Rattle.step_rules.proofs.Alike.{offers-alike}
 use Rattle.run_order.specs.declared.cursor.Cursor.{Cursor}
-use Rattle.run_order.specs.declared.streams.Offered.{Offered}
-use Rattle.run_order.specs.declared.streams.Offered.the-variants.{NextWord, NoWord}
-use Rattle.run_order.specs.Streams.{Streams, nextWord}
-use Rattle.run_order.specs.Cursor.{movedOf}
+use Rattle.run_order.specs.declared.cursor.Offered.{Offered}
+use Rattle.run_order.specs.declared.cursor.Offered.the-variants.{NextWord, NoWord}
+use Rattle.run_order.specs.Cursor.{Streams, nextWord, movedOf}
 use Rattle.run_order.specs.Ending.{haltOf, refusedWord, quietAfter, RunEnd, Halted, halts, goesOn, budgetUsed}
-use Rattle.run_rules.specs.Turn.{Turn, byWord, turnOf}
+use Rattle.run_rules.specs.Run.{Turn, byWord, turnOf, Run, stop, before, unless, runFrom, runOf}
 use Rattle.run_rules.specs.Checks.{callCheck, callHalt}
-use Rattle.run_rules.specs.Run.{Run, stop, before, unless, runFrom, runOf}
 use Rattle.run_rules.specs.Isolation.{TurnsAlike, RunsAlike, Isolated}
 
 turns-alike : (s : Streams) (c : Cursor) (m n : Machine) → Agree m n → TurnsAlike (turnOf s m c) (turnOf s n c)

@@ -8,18 +8,15 @@ use lib.Dec.{leb, eqb}
 use Rattle.machine.specs.Machine.{Machine}
 use Rattle.machine.specs.Formed.{wellFormed}
 use Rattle.machine.specs.Answers.{Told, accepted, refused}
-use Rattle.machine.specs.Outcomes.{Progress, idle, passed, stalled}
-use Rattle.machine.specs.Outcomes.{hasPassed}
+use Rattle.machine.specs.Outcomes.{Progress, idle, passed, stalled, hasPassed}
 use Rattle.run_order.specs.declared.cursor.Cursor.{Cursor}
-use Rattle.run_order.specs.declared.streams.Offered.{Offered}
-use Rattle.run_order.specs.declared.streams.Offered.the-variants.{NextWord, NoWord}
-use Rattle.run_order.specs.Streams.{Streams, usedUp, nextWord}
-use Rattle.run_order.specs.Cursor.{onwardOf, movedOf}
+use Rattle.run_order.specs.declared.cursor.Offered.{Offered}
+use Rattle.run_order.specs.declared.cursor.Offered.the-variants.{NextWord, NoWord}
+use Rattle.run_order.specs.Cursor.{Streams, usedUp, nextWord, onwardOf, movedOf}
 use Rattle.run_order.specs.Ending.{haltOf, refusedWord, quietAfter, RunEnd, Halted, halts, goesOn, finished, stuck, budgetUsed}
-use Rattle.run_rules.specs.Turn.{byWord, turnOf}
+use Rattle.run_rules.specs.Run.{byWord, turnOf, Run, stop, before, unless, runFrom, runOf}
 use Rattle.run_rules.specs.Checks.{callCheck, callHalt}
 use Rattle.run_rules.specs.Ready.{Ready}
-use Rattle.run_rules.specs.Run.{Run, stop, before, unless, runFrom, runOf}
 use Rattle.run_rules.specs.StuckForGood.{SamePositions}
 use Rattle.run_rules.specs.Kept.{QuietTurn, RunKeeps}
 use Rattle.run_rules.proofs.Calls.{call-checked}

@@ -1,21 +1,18 @@
 -- A stalled word is its thread's word again, three turns on.
 use Prim.Native.Nat.{ℕ, zero, suc, _+_, _<_}
-use mathlib.Core.Path.{_≡_, refl, sym, ap, _∙_}
+use mathlib.Core.Path.{_≡_, refl, sym, _∙_}
 use mathlib.Core.Bool.{Bool, true, false, cond}
 use mathlib.Core.List.{List, [], _∷_, _++_}
 use native.Mathlib.Omega.{arith}
 use lib.Dec.{eqb}
 use Rattle.machine.specs.Machine.{Machine}
 use Rattle.machine.specs.Answers.{Told, accepted, refused}
-use Rattle.machine.specs.Outcomes.{Progress, idle, passed, stalled}
-use Rattle.machine.specs.Outcomes.{hasPassed}
+use Rattle.machine.specs.Outcomes.{Progress, idle, passed, stalled, hasPassed}
 use Rattle.run_order.specs.declared.cursor.Cursor.{Cursor}
-use Rattle.run_order.specs.Cursor.{cursor, following, onwardOf, pastOf, movedOf}
+use Rattle.run_order.specs.Cursor.{cursor, following, onwardOf, pastOf, movedOf, Streams, wordAt, nextWord}
 use Rattle.run_order.specs.Ending.{Halted, halts, goesOn}
-use Rattle.run_order.specs.Streams.{Streams, wordAt, nextWord}
-use Rattle.run_rules.specs.Turn.{Turn, turnOf}
+use Rattle.run_rules.specs.Run.{Turn, turnOf, unless, runFrom, runOf}
 use Rattle.run_rules.specs.Checks.{callCheck, callHalt}
-use Rattle.run_rules.specs.Run.{Run, unless, runFrom, runOf}
 use Rattle.run_rules.specs.Ready.{Ready}
 use Rattle.run_rules.specs.Chained.{Leads}
 use Rattle.run_rules.specs.Observed.{machineLeft, cursorLeft}

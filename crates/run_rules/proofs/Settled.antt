@@ -11,12 +11,10 @@ use Rattle.machine.specs.Machine.{Machine}
 use Rattle.machine.specs.Answers.{Told, accepted, refused}
 use Rattle.machine.specs.Outcomes.{Progress, idle, passed, stalled}
 use Rattle.run_order.specs.declared.cursor.Cursor.{Cursor}
-use Rattle.run_order.specs.Streams.{Streams, usedUp}
-use Rattle.run_order.specs.Cursor.{onwardOf}
+use Rattle.run_order.specs.Cursor.{Streams, usedUp, onwardOf}
 use Rattle.run_order.specs.Ending.{haltOf, refusedWord, quietAfter, Halted, halts, goesOn, finished, stuck, budgetUsed}
-use Rattle.run_rules.specs.Turn.{turnOf}
+use Rattle.run_rules.specs.Run.{turnOf, Run, stop, unless, runFrom, runOf}
 use Rattle.run_rules.specs.Checks.{callCheck, callHalt}
-use Rattle.run_rules.specs.Run.{Run, stop, unless, runFrom, runOf}
 use Rattle.run_rules.specs.Ready.{Ready}
 use Rattle.run_rules.specs.StuckForGood.{waiting}
 use Rattle.run_rules.proofs.Calls.{call-checked}

@@ -14,11 +14,9 @@ use Rattle.machine.specs.Machine.{Machine}
 use Rattle.machine.specs.declared.access.Access.the-variants.{Granted}
 use Rattle.machine.specs.Answers.{Told, accepted}
 use Rattle.run_order.specs.declared.cursor.Cursor.{Cursor}
-use Rattle.run_order.specs.Streams.{Streams, usedUp}
-use Rattle.run_order.specs.Cursor.{onwardOf}
+use Rattle.run_order.specs.Cursor.{Streams, usedUp, onwardOf}
 use Rattle.run_order.specs.Ending.{haltOf, RunEnd, goesOn, stuck, budgetUsed}
-use Rattle.run_rules.specs.Turn.{Turn, turnOf}
-use Rattle.run_rules.specs.Run.{Run, stop, before, runFrom, runOf}
+use Rattle.run_rules.specs.Run.{Turn, turnOf, Run, stop, before, runFrom, runOf}
 use Rattle.run_rules.specs.StuckForGood.{SamePositions, StillTurn, StuckForGood}
 use Rattle.run_rules.proofs.Halting.{run-halts, run-on}
 use Rattle.run_rules.proofs.Calls.{ready-call, call-runs}

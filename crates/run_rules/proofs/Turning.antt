@@ -16,11 +16,10 @@ use Rattle.machine.specs.Outcomes.{Progress, idle, passed, stalled}
 use Rattle.step_rules.specs.Step.{Step, offerOf}
 use Rattle.step_rules.proofs.Kept.{offer-kept}
 use Rattle.run_order.specs.declared.cursor.Cursor.{Cursor}
-use Rattle.run_order.specs.declared.streams.Offered.{Offered}
-use Rattle.run_order.specs.declared.streams.Offered.the-variants.{NextWord, NoWord}
-use Rattle.run_order.specs.Streams.{Streams, wordAt, nextWord}
-use Rattle.run_order.specs.Cursor.{cursor, following, onwardOf, pastOf, movedOf}
-use Rattle.run_rules.specs.Turn.{turned, byWord, turnOf}
+use Rattle.run_order.specs.declared.cursor.Offered.{Offered}
+use Rattle.run_order.specs.declared.cursor.Offered.the-variants.{NextWord, NoWord}
+use Rattle.run_order.specs.Cursor.{Streams, wordAt, nextWord, cursor, following, onwardOf, pastOf, movedOf}
+use Rattle.run_rules.specs.Run.{turned, byWord, turnOf}
 use Rattle.run_rules.specs.Ready.{Within, Ready}
 
 module _ (s : Streams) (m : Machine) (c k : Cursor) (o : Offered) (eo : o ≡ nextWord s c) where

@@ -5,17 +5,15 @@ use mathlib.Core.Bool.{true, false}
 use native.Mathlib.Omega.{arith}
 use Rattle.machine.specs.Machine.{Machine}
 use Rattle.machine.specs.Answers.{Told, accepted, refused}
-use Rattle.machine.specs.Outcomes.{Progress, idle, passed, stalled}
-use Rattle.machine.specs.Outcomes.{hasPassed}
+use Rattle.machine.specs.Outcomes.{Progress, idle, passed, stalled, hasPassed}
 use Rattle.step_rules.specs.Step.{offerOf}
 use Rattle.step_rules.proofs.Unchanged.{offer-unchanged}
 use Rattle.run_order.specs.declared.cursor.Cursor.{Cursor}
-use Rattle.run_order.specs.declared.streams.Offered.{Offered}
-use Rattle.run_order.specs.declared.streams.Offered.the-variants.{NextWord, NoWord}
-use Rattle.run_order.specs.Streams.{Streams, nextWord}
-use Rattle.run_order.specs.Cursor.{cursor, following, onwardOf, movedOf}
+use Rattle.run_order.specs.declared.cursor.Offered.{Offered}
+use Rattle.run_order.specs.declared.cursor.Offered.the-variants.{NextWord, NoWord}
+use Rattle.run_order.specs.Cursor.{Streams, nextWord, cursor, following, onwardOf, movedOf}
 use Rattle.run_order.specs.Ending.{refusedWord, quietAfter, goesOn}
-use Rattle.run_rules.specs.Turn.{byWord, turnOf}
+use Rattle.run_rules.specs.Run.{byWord, turnOf}
 use Rattle.run_rules.specs.StuckForGood.{waiting}
 
 -- after three threads it is the first one's turn again

@@ -6,9 +6,8 @@ use mathlib.Core.List.{List, [], _∷_}
 use lib.ListN.{length}
 use Rattle.machine.specs.Machine.{Machine}
 use Rattle.run_order.specs.declared.cursor.Cursor.{Cursor}
-use Rattle.run_order.specs.Streams.{Streams}
-use Rattle.run_rules.specs.Turn.{Turn, turnOf}
-use Rattle.run_rules.specs.Run.{Run, runOf}
+use Rattle.run_order.specs.Cursor.{Streams}
+use Rattle.run_rules.specs.Run.{Turn, turnOf, Run, runOf}
 
 -- turns that lead from m and c to the machine and cursor at the end, each of them what the rules make of what it found
 abbrev pub Leads : Streams → Machine → Cursor → List Turn → Machine → Cursor → Type 0

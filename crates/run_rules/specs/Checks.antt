@@ -8,7 +8,7 @@ use Rattle.machine.specs.Machine.{Machine}
 use Rattle.machine.specs.Formed.{sized, formed}
 use Rattle.machine.specs.Answers.{Told, accepted, refused, provided}
 use Rattle.run_order.specs.declared.cursor.Cursor.{Cursor}
-use Rattle.run_order.specs.Streams.{Streams}
+use Rattle.run_order.specs.Cursor.{Streams}
 use Rattle.run_order.specs.Ending.{Halted, halts, goesOn}
 
 -- no stream is over 65,536 words

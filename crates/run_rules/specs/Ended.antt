@@ -8,13 +8,11 @@ use mathlib.Core.Logic.{_⊎_}
 use lib.ListN.{length}
 use Rattle.machine.specs.Machine.{Machine}
 use Rattle.machine.specs.Answers.{Told, accepted, refused}
-use Rattle.machine.specs.Outcomes.{Progress}
-use Rattle.machine.specs.Outcomes.{hasPassed}
+use Rattle.machine.specs.Outcomes.{Progress, hasPassed}
 use Rattle.run_order.specs.declared.cursor.Cursor.{Cursor}
 use Rattle.run_order.specs.Ending.{RunEnd, finished, stuck, budgetUsed, wordRefused}
-use Rattle.run_order.specs.Streams.{Streams, usedUp}
-use Rattle.run_rules.specs.Turn.{Turn}
-use Rattle.run_rules.specs.Run.{Run, stop, runOf}
+use Rattle.run_order.specs.Cursor.{Streams, usedUp}
+use Rattle.run_rules.specs.Run.{Turn, Run, stop, runOf}
 use Rattle.run_rules.specs.Observed.{machineLeft, cursorLeft}
 
 -- how many turns at the end of these, with `quiet` before them, went without a passed word

@@ -9,9 +9,8 @@ use Rattle.machine.specs.Machine.{Machine}
 use Rattle.machine.specs.Formed.{wellFormed}
 use Rattle.step_rules.specs.Alike.{Agree}
 use Rattle.run_order.specs.declared.cursor.Cursor.{Cursor}
-use Rattle.run_order.specs.Streams.{Streams}
-use Rattle.run_rules.specs.Turn.{Turn}
-use Rattle.run_rules.specs.Run.{Run, runOf}
+use Rattle.run_order.specs.Cursor.{Streams}
+use Rattle.run_rules.specs.Run.{Turn, Run, runOf}
 
 -- two turns
 pub record TurnsAlike (t u : Turn) : Type 0 where

@@ -8,9 +8,8 @@ use Rattle.machine.specs.Formed.{wellFormed}
 use Rattle.machine.specs.Answers.{refused}
 use Rattle.machine.specs.Outcomes.{hasPassed}
 use Rattle.run_order.specs.declared.cursor.Cursor.{Cursor}
-use Rattle.run_order.specs.Streams.{Streams}
-use Rattle.run_rules.specs.Turn.{turnOf}
-use Rattle.run_rules.specs.Run.{stop, runOf}
+use Rattle.run_order.specs.Cursor.{Streams}
+use Rattle.run_rules.specs.Run.{turnOf, stop, runOf}
 use Rattle.run_rules.specs.StuckForGood.{SamePositions}
 
 -- a turn without a passed word: "a stall changes nothing"

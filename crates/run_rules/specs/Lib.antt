@@ -1,4 +1,3 @@
-pub mod Turn
 pub mod Checks
 pub mod Run
 pub mod Ready

@@ -6,9 +6,8 @@ use mathlib.Core.List.{List, [], _∷_}
 use lib.ListN.{length, take}
 use Rattle.machine.specs.Machine.{Machine}
 use Rattle.run_order.specs.declared.cursor.Cursor.{Cursor}
-use Rattle.run_order.specs.Streams.{Streams}
-use Rattle.run_rules.specs.Turn.{Turn}
-use Rattle.run_rules.specs.Run.{Run, runOf}
+use Rattle.run_order.specs.Cursor.{Streams}
+use Rattle.run_rules.specs.Run.{Turn, Run, runOf}
 
 -- the machine and the cursor that turns leave, from those that the first of them found
 abbrev pub machineLeft : Machine → List Turn → Machine

@@ -6,13 +6,10 @@ use mathlib.Core.List.{List, _∷_, _++_}
 use lib.Dec.{eqb}
 use Rattle.machine.specs.Machine.{Machine}
 use Rattle.machine.specs.Answers.{Told, accepted, refused}
-use Rattle.machine.specs.Outcomes.{Progress, stalled}
-use Rattle.machine.specs.Outcomes.{hasPassed}
+use Rattle.machine.specs.Outcomes.{Progress, stalled, hasPassed}
 use Rattle.run_order.specs.declared.cursor.Cursor.{Cursor}
-use Rattle.run_order.specs.Cursor.{following}
-use Rattle.run_order.specs.Streams.{Streams, nextWord}
-use Rattle.run_rules.specs.Turn.{Turn, turnOf}
-use Rattle.run_rules.specs.Run.{runOf}
+use Rattle.run_order.specs.Cursor.{following, Streams, nextWord}
+use Rattle.run_rules.specs.Run.{Turn, turnOf, runOf}
 use Rattle.run_rules.specs.Observed.{cursorLeft}
 
 -- a thread's position

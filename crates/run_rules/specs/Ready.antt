@@ -8,7 +8,7 @@ use Rattle.machine.specs.Sizes.{streamMost}
 use Rattle.machine.specs.Machine.{Machine}
 use Rattle.machine.specs.Formed.{wellFormed}
 use Rattle.run_order.specs.declared.cursor.Cursor.{Cursor}
-use Rattle.run_order.specs.Streams.{Streams}
+use Rattle.run_order.specs.Cursor.{Streams}
 
 -- no stream is too long
 pub record Lengths (s : Streams) : Type 0 where

@@ -1,14 +1,38 @@
--- A run: the record of all its turns, and how it ends.
+-- One turn, and a run: the record of all its turns, and how it ends.
+use Rattle.machine.specs.Machine.{Machine}
+use Rattle.machine.specs.Answers.{Told, accepted}
+use Rattle.machine.specs.Outcomes.{Progress, idle}
+use Rattle.step_rules.specs.Step.{Step, offerOf}
+use Rattle.run_order.specs.declared.cursor.Cursor.{Cursor}
+use Rattle.run_order.specs.declared.cursor.Offered.{Offered}
+use Rattle.run_order.specs.declared.cursor.Offered.the-variants.{NextWord, NoWord}
+use Rattle.run_order.specs.Cursor.{Streams, nextWord, movedOf}
 use Prim.Native.Nat.{ℕ, zero, suc}
 use mathlib.Core.List.{List, [], _∷_}
 use lib.ListN.{length}
-use Rattle.machine.specs.Machine.{Machine}
-use Rattle.machine.specs.Answers.{Told, accepted}
-use Rattle.run_order.specs.declared.cursor.Cursor.{Cursor}
-use Rattle.run_order.specs.Streams.{Streams}
 use Rattle.run_order.specs.Ending.{haltOf, refusedWord, quietAfter, RunEnd, Halted, halts, goesOn, budgetUsed}
-use Rattle.run_rules.specs.Turn.{Turn, turnOf}
 use Rattle.run_rules.specs.Checks.{callCheck, callHalt}
+
+-- a turn: its outcome, and the machine and the cursor that it leaves
+pub record Turn : Type 0 where
+  pub outcome : Told Progress
+  pub after : Machine
+  pub cursor : Cursor
+
+abbrev pub turned : Told Progress → Machine → Cursor → Turn
+turned o m c = record { outcome = o; after = m; cursor = c }
+
+-- a turn that offers a word
+abbrev pub offeredTurn : Step → Cursor → Turn
+offeredTurn x c = turned (x .outcome) (x .after) (movedOf (x .outcome) c)
+
+abbrev pub byWord : Machine → Cursor → Offered → Turn
+byWord m c (NextWord w) = offeredTurn (offerOf m (c .next) w) c
+byWord m c NoWord = turned (accepted idle) m (movedOf (accepted idle) c)
+
+-- offers the next thread's word, or does nothing if its stream is used up
+unfoldable pub turnOf : Streams → Machine → Cursor → Turn
+turnOf s m c = byWord m c (nextWord s c)
 
 -- each turn in order, with its outcome and the machine and cursor after it; how it ended, or the number of a refused call; the machine and
 -- cursor at the end

@@ -10,10 +10,9 @@ use Rattle.machine.specs.Machine.{Machine}
 use Rattle.machine.specs.Answers.{Told, accepted, refused}
 use Rattle.machine.specs.Outcomes.{Progress, idle, passed, stalled}
 use Rattle.run_order.specs.declared.cursor.Cursor.{Cursor}
-use Rattle.run_order.specs.Streams.{Streams}
+use Rattle.run_order.specs.Cursor.{Streams}
 use Rattle.run_order.specs.Ending.{stuck, budgetUsed}
-use Rattle.run_rules.specs.Turn.{Turn}
-use Rattle.run_rules.specs.Run.{Run, runOf}
+use Rattle.run_rules.specs.Run.{Turn, Run, runOf}
 
 -- idle or stalled
 abbrev pub waiting : Told Progress → Bool

@@ -4,16 +4,16 @@ ghost use mathlib.Core.List.{List};
 ghost use Prim.Native.Nat.{ℕ};
 ghost use Rattle.machine.specs.Machine.{machine};
 ghost use Rattle.machine.specs.Outcomes.{toldOutcome};
-ghost use Rattle.run_order.specs.Streams.{streams};
-ghost use Rattle.run_rules.specs.Turn.{turned, turnOf};
+ghost use Rattle.run_order.specs.Cursor.{streams};
+ghost use Rattle.run_rules.specs.Run.{turned, turnOf};
 ghost use Rattle.run_rules.specs.Ready.{ReadyApart};
 use machine::control::Control;
 use machine::refusal::Outcome;
 use run_order::cursor::Cursor;
+use run_order::cursor::Offered;
 use run_order::cursor::moved;
+use run_order::cursor::next_word;
 use run_order::cursor::onward;
-use run_order::streams::Offered;
-use run_order::streams::next_word;
 use step_offer::offer;
 
 // What came of a turn, and the control part and cursor after it.

@@ -15,12 +15,12 @@ ghost use Rattle.step_rules.specs.Step.{stepped, offerOf};
 use crate::store_words::store_word;
 use machine::control::Control;
 use machine::refusal::Outcome;
-use word_control::after::drop_if;
 use word_control::control_word;
 use word_control::on_control;
+use word_control::wait_words::drop_if;
 use word_rules::stepped::Stepped;
 use word_waits::judge;
-use word_waits::owners::matrix_owns;
+use word_waits::matrix_owns;
 
 // Whether a word passed.
 fn has_passed(o: Outcome) -> bool

@@ -8,10 +8,8 @@ use Rattle.machine.specs.Machine.{Machine}
 use Rattle.machine.specs.Answers.{Told, accepted, refused}
 use Rattle.word_rules.specs.declared.instruction.Instruction.{Instruction}
 use Rattle.word_rules.specs.Table.{decodeOf}
-use Rattle.word_rules.specs.Waits.{Gate, Open, Closed}
-use Rattle.word_rules.specs.Waits.{gateOf}
-use Rattle.word_rules.specs.After.{controlAfter}
-use Rattle.word_rules.specs.After.{settingsAfter}
+use Rattle.word_rules.specs.Waits.{Gate, Open, Closed, gateOf}
+use Rattle.word_rules.specs.After.{controlAfter, settingsAfter}
 use Rattle.step_rules.specs.Step.{machineAfter, byGate, gatedOf, byDecoded, offerOf}
 use Rattle.step_rules.specs.Alike.{Agree, StepsAlike, OffersAlike}
 

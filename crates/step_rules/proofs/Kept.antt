@@ -14,9 +14,8 @@ use Rattle.word_rules.specs.declared.instruction.Instruction.{Instruction}
 use Rattle.word_rules.specs.Table.{decodeOf}
 use Rattle.word_rules.specs.InRange.{InRange, DecodedInRange}
 use Rattle.word_rules.proofs.Saying.{decode-in-range}
-use Rattle.word_rules.specs.Waits.{Gate, Open, Closed}
+use Rattle.word_rules.specs.Waits.{Gate, Open, Closed, gateOf}
 use Rattle.machine.specs.Control.{matrixBank}
-use Rattle.word_rules.specs.Waits.{gateOf}
 use Rattle.word_rules.proofs.ControlKeeps.{control-after-formed}
 use Rattle.word_rules.specs.After.{settingsAfter}
 use Rattle.word_rules.proofs.StoresKeep.{settings-long, settings-range, stores-sized, stores-formed}

@@ -5,8 +5,7 @@ use Rattle.machine.specs.Answers.{Told, accepted, refused}
 use Rattle.word_rules.specs.declared.instruction.Instruction.{Instruction}
 use Rattle.word_rules.specs.Table.{decodeOf}
 use Rattle.word_rules.proofs.Saying.{TwoOrThree, two-or-three}
-use Rattle.word_rules.specs.Waits.{Gate, Open, Closed}
-use Rattle.word_rules.specs.Waits.{gateOf}
+use Rattle.word_rules.specs.Waits.{Gate, Open, Closed, gateOf}
 use Rattle.step_rules.specs.Step.{byGate, gatedOf, byDecoded, offerOf}
 
 module _ (m : Machine) (t : ℕ) where

@@ -7,9 +7,8 @@ use Rattle.machine.specs.Machine.{Machine}
 use Rattle.machine.specs.Answers.{Told, accepted, refused}
 use Rattle.word_rules.specs.declared.instruction.Instruction.{Instruction}
 use Rattle.word_rules.specs.Table.{decodeOf}
-use Rattle.word_rules.specs.Waits.{Gate, Open, Closed}
+use Rattle.word_rules.specs.Waits.{Gate, Open, Closed, gateOf}
 use Rattle.machine.specs.Outcomes.{hasPassed}
-use Rattle.word_rules.specs.Waits.{gateOf}
 use Rattle.step_rules.specs.Step.{byGate, gatedOf, byDecoded, offerOf, checkOf, byCheck, stepOf}
 use Rattle.step_rules.specs.Unchanged.{Unchanged}
 

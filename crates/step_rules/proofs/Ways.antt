@@ -1,19 +1,18 @@
 -- The ways that a call of one word can go, as equations of the definitions, for the code that takes them.
-use Prim.Native.Nat.{ℕ, _<_, _≤_}
-use mathlib.Core.Path.{_≡_, refl, sym, ap, _∙_}
-use mathlib.Core.Bool.{Bool, true, false, cond, not}
+use Prim.Native.Nat.{ℕ, _<_}
+use mathlib.Core.Path.{_≡_, sym, ap, _∙_}
+use mathlib.Core.Bool.{true}
 use native.Mathlib.Omega.{arith}
 use lib.Dec.{leb}
-use borrow.Author.Tests.{leb-true, le-leb, lt-leb, not-true, not-false}
+use borrow.Author.Tests.{leb-true}
 use Rattle.bits.proofs.Choices.{and-left}
 use Rattle.machine.proofs.Checks.{provided-test, provided-rest}
 use Rattle.machine.specs.declared.refusal.Refusal.{Refusal}
-use Rattle.machine.specs.declared.refusal.Refusal.the-variants.{BadThread, BadLength, Malformed}
 use Rattle.machine.specs.Machine.{Machine}
 use Rattle.machine.specs.Formed.{sized, formed, controlFormed}
 use Rattle.machine.specs.declared.access.Access.{Access}
 use Rattle.machine.specs.declared.access.Access.the-variants.{Granted, Refused}
-use Rattle.machine.specs.Answers.{Told, accepted, refusal, told, provided}
+use Rattle.machine.specs.Answers.{Told, accepted, refusal, told}
 use Rattle.word_rules.specs.declared.instruction.Instruction.{Instruction}
 use Rattle.word_rules.specs.Table.{decodeOf}
 use Rattle.step_rules.specs.Step.{Step, stepped, byDecoded, offerOf, checkOf, byCheck, stepOf}

@@ -1,18 +1,15 @@
 -- One word on the whole machine: what comes of it in document 01's numbers, and the machine that it leaves.
 use Prim.Native.Nat.{ℕ}
 use lib.Dec.{leb}
-use lib.ListN.{getD}
 use Rattle.machine.specs.Machine.{Machine, machineWith}
 use Rattle.machine.specs.Formed.{sized, formed}
 use Rattle.machine.specs.Answers.{Told, accepted, refused, provided}
 use Rattle.machine.specs.Outcomes.{Progress, passed, stalled}
 use Rattle.word_rules.specs.declared.instruction.Instruction.{Instruction}
 use Rattle.word_rules.specs.Table.{decodeOf}
-use Rattle.word_rules.specs.Waits.{Gate, Open, Closed}
+use Rattle.word_rules.specs.Waits.{Gate, Open, Closed, gateOf}
 use Rattle.machine.specs.Control.{matrixBank}
-use Rattle.word_rules.specs.Waits.{gateOf}
-use Rattle.word_rules.specs.After.{controlAfter}
-use Rattle.word_rules.specs.After.{settingsAfter, storesAfter}
+use Rattle.word_rules.specs.After.{controlAfter, settingsAfter, storesAfter}
 
 -- an outcome, with the machine after it
 pub record Step : Type 0 where

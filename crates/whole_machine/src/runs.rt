@@ -1,7 +1,7 @@
 // A run of a whole machine by value: the machine's parts are lent once, so that no caller holds them all.
 ghost use mathlib.Core.Path.{_≡_};
 ghost use Rattle.machine.specs.Fresh.{machineOf};
-ghost use Rattle.run_order.specs.Streams.{streams};
+ghost use Rattle.run_order.specs.Cursor.{streams};
 ghost use Rattle.run_rules.specs.Run.{runOf, summaryOf};
 ghost use Rattle.whole_machine.specs.Ran.{ranSummary};
 use machine::fresh::WholeMachine;

@@ -1,13 +1,12 @@
 // The words that work on the control part, offered: the words of the sync unit, SETDVALID and CLEARDVALID. Nothing here is lent
 // a store.
-pub mod after;
 mod bank_words;
 mod banks;
 pub mod fields;
 mod mutex_words;
 mod semaphore_words;
 mod semaphores;
-mod wait_words;
+pub mod wait_words;
 
 ghost use mathlib.Core.Path.{_≡_};
 ghost use mathlib.Core.Bool.{true};

@@ -1,15 +1,15 @@
 // ATGETM and ATRELM.
 ghost use mathlib.Core.Path.{_≡_};
 ghost use Prim.Native.Nat.{_<_};
-ghost use Rattle.machine.specs.Sizes.{threadCount};
+ghost use Rattle.machine.specs.Sizes.{threadCount, mutexCount};
 ghost use Rattle.word_rules.specs.Waits.{mutexOpen};
-ghost use Rattle.word_rules.specs.SyncWords.{atGetMOf, atRelMOf};
+ghost use Rattle.word_rules.specs.SyncWords.{atGetMOf, atRelMOf, released};
 ghost use Rattle.word_rules.specs.Offered.{toldStepped, controlOffer};
-use crate::after::drop_if;
-use crate::after::release;
-use crate::after::with_mutex;
+ghost use lib.ListN.{set};
+ghost use Rattle.machine.specs.Control.{withMutexes};
 use crate::fields::mutex;
 use crate::fields::mutex_fine;
+use crate::wait_words::drop_if;
 use machine::control::Control;
 use machine::refusal::Outcome;
 use machine::refusal::StallCause;
@@ -17,6 +17,31 @@ use word_rules::stepped::Stepped;
 use word_rules::verdict::b1;
 use word_rules::verdict::stopped;
 use word_rules::verdict::verdict;
+
+// A mutex's holder replaced. Internal: the mutex is in range.
+fn with_mutex(c: Control, m: usize, holder: u8) -> Control
+    requires { ⌜ m < mutexCount ⌝ }
+    ensures { λ r. ⌜ r ≡ withMutexes c (set (c .mutexes) m holder) ⌝ }
+{
+    let mut mutexes = c.mutexes;
+    mutexes[m] = holder;
+    let mut d = c;
+    d.mutexes = mutexes;
+    d
+}
+
+// A mutex freed, if it is the thread's. Internal: mutex and thread are in range.
+fn release(c: Control, m: usize, t: usize) -> Control
+    requires { ⌜ (m < mutexCount) × (t < threadCount) ⌝ }
+    ensures { λ r. ⌜ r ≡ withMutexes c (released (c .mutexes) m t) ⌝ }
+{
+    let mutexes = c.mutexes;
+    let holder = mutexes[m];
+    if holder == t as u8 + 1 {
+        return with_mutex(c, m, 0);
+    }
+    c
+}
 
 // Whether ATGETM passes. Internal: the thread is in range.
 fn mutex_open(holder: u8, t: usize) -> bool

@@ -8,9 +8,9 @@ ghost use Rattle.word_rules.specs.declared.instruction.Instruction.the-variants
 ghost use Rattle.word_rules.specs.SyncWords.{maskOf};
 ghost use Rattle.word_rules.specs.Offered.{toldStepped, controlOffer};
 ghost use Rattle.word_control.specs.Changes.{Changes};
-use crate::after::change_semaphores;
-use crate::after::drop_if;
 use crate::fields::mask;
+use crate::semaphores::change_semaphores;
+use crate::wait_words::drop_if;
 use machine::control::Control;
 use machine::refusal::Outcome;
 use machine::refusal::StallCause;

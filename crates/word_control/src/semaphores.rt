@@ -1,6 +1,7 @@
 // Semaphores under a mask, changed.
 ghost use mathlib.Core.Path.{_≡_};
-ghost use Rattle.word_rules.specs.SyncWords.{changedBy, maskedChange, changeMasked};
+ghost use Rattle.word_rules.specs.SyncWords.{changedBy, maskedChange, changeMasked, changeSemaphores};
+use machine::control::Control;
 use machine::control::Semaphore;
 use machine::sizes::SEMAPHORE_MOST;
 use machine::sizes::SEMAPHORES;
@@ -43,7 +44,7 @@ fn changed_if(s: Semaphore, m: u8, k: SemaphoreChange) -> Semaphore
 }
 
 // Each semaphore of the mask changed.
-pub(crate) fn change_masked(
+fn change_masked(
     all: [Semaphore; SEMAPHORES],
     mask: u8,
     k: SemaphoreChange,
@@ -60,4 +61,15 @@ pub(crate) fn change_masked(
         i += 1;
     }
     a
+}
+
+// The semaphores of a mask changed.
+pub(crate) fn change_semaphores(c: Control, mask: u8, k: SemaphoreChange) -> Control
+    ensures { λ r. ⌜ r ≡ changeSemaphores c mask k ⌝ }
+{
+    let all = c.semaphores;
+    let changed = change_masked(all, mask, k);
+    let mut d = c;
+    d.semaphores = changed;
+    d
 }

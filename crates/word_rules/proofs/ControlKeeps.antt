@@ -1,14 +1,13 @@
 -- A word that passes keeps a well-formed control part well formed.
-use Prim.Native.Nat.{ℕ, suc, _+_, _*_, _-_, _≤_, _<_, _/_}
+use Prim.Native.Nat.{ℕ, suc, _+_, _-_, _≤_, _<_, _/_}
 use mathlib.Core.Path.{_≡_, refl, ap, _∙_}
-use mathlib.Core.Bool.{Bool, true, false, cond, _&&_}
+use mathlib.Core.Bool.{Bool, true, false, _&&_}
 use mathlib.Core.List.{List, [], _∷_}
 use native.Mathlib.Omega.{arith}
 use lib.Dec.{leb, ltb, eqb}
 use lib.ListN.{length, set, getD, length-set, length-replicate, replicate}
 use borrow.Author.Tests.{le-leb, leb-true, ltb-true}
 use Rattle.bits.specs.Field.{lowBit}
-use Rattle.bits.specs.Ranges.{allAtMost}
 use Rattle.bits.proofs.Choices.{and-left, and-right, and-intro, cond-both, cond-cases}
 use Rattle.bits.proofs.Ranges.{at-most-set, at-most-replicate}
 use Rattle.machine.specs.declared.control.Wait.{Wait}
@@ -19,7 +18,7 @@ use Rattle.machine.specs.declared.control.Control.{Control}
 use Rattle.machine.specs.Sizes.{mutexCount, bankCount, pointerCount, holderMost, semaphoreMost, blockMost, conditionsMost, maskMost, conditionMost}
 use Rattle.machine.specs.Control.{withThreads, withThread, withMutexes, withSemaphores, withBanks, withWait, waitOf, unpackBank, matrixBank, ownerPlace, unpackPlace, matrixPlace}
 use Rattle.machine.specs.Formed.{waitFormed, semaphoresFormed, controlFormed}
-use Rattle.machine.proofs.ControlFacts.{Numbers, SemaphoreFacts, WaitFacts, ControlFacts, control-facts, control-formed}
+use Rattle.machine.proofs.ControlFacts.{Numbers, SemaphoreFacts, ControlFacts, control-facts, control-formed}
 use Rattle.word_rules.specs.declared.semaphore_change.SemaphoreChange.{SemaphoreChange}
 use Rattle.word_rules.specs.declared.semaphore_change.SemaphoreChange.the-variants.{Init, Up, Down}
 use Rattle.word_rules.specs.declared.instruction.SyncWord.{SyncWord}

@@ -5,13 +5,11 @@ use mathlib.Core.Bool.{Bool, true, false, cond, not}
 use Rattle.machine.specs.declared.control.Wait.{Wait}
 use Rattle.machine.specs.declared.control.Wait.the-variants.{Clear, OnStall, OnSemaphore}
 use Rattle.machine.specs.declared.control.Control.{Control}
-use Rattle.machine.specs.Control.{waitOf}
+use Rattle.machine.specs.Control.{waitOf, withWait}
 use Rattle.word_rules.specs.declared.instruction.Instruction.{Instruction}
 use Rattle.word_rules.specs.Waits.{holdsNow}
-use Rattle.word_rules.specs.Offered.{liftedNow}
-use Rattle.machine.specs.Control.{withWait}
+use Rattle.word_rules.specs.Offered.{liftedNow, droppedIf}
 use Rattle.word_rules.specs.After.{dropLifted, wordAfter, controlAfter}
-use Rattle.word_rules.specs.Offered.{droppedIf}
 
 either-way : {A : Type 0} (b : Bool) (x y : A) → cond (not b) x y ≡ cond b y x
 either-way true x y = refl

@@ -20,9 +20,8 @@ use Rattle.dest.specs.Maps.{storage16, high32, low32}
 use Rattle.dest.proofs.Covering.{views-cover}
 use Rattle.dest.proofs.Halves.{storage16-half, halves32}
 use Rattle.machine.specs.Sizes.{markCount}
-use Rattle.word_rules.specs.Marks.{viewRows}
+use Rattle.word_rules.specs.Marks.{viewRows, clearRow, clearRows, LiesIn}
 use Rattle.word_rules.specs.InRange.{PlaceInView}
-use Rattle.word_rules.specs.Marks.{clearRow, clearRows, LiesIn}
 use Rattle.word_rules.specs.CellWords.{firstRow, rowCount, flagsIn, afterZeroAcc}
 use Rattle.word_rules.proofs.MarkLaws.{rows-cleared, clear-long}
 

@@ -1,10 +1,10 @@
 -- What any word can say: an instruction whose numbers are in range, or 2 or 3; and which instructions work on the control part.
 use Prim.Native.Nat.{ℕ, _+_, _*_, _<_}
 use mathlib.Core.Path.{_≡_, refl}
-use mathlib.Core.Bool.{Bool, true, cond, not, _&&_}
-use mathlib.Core.List.{List, []}
+use mathlib.Core.Bool.{Bool, true, not, _&&_}
+use mathlib.Core.List.{[]}
 use mathlib.Core.Logic.{_⊎_, inl, inr}
-use lib.Dec.{eqb, leb, ltb}
+use lib.Dec.{ltb}
 use native.Mathlib.Omega.{arith}
 use borrow.Author.Needs.{needs}
 use borrow.Author.Tests.{leb-true, ltb-true}
@@ -18,7 +18,7 @@ use Rattle.word_rules.specs.ScalarWords.{operandBOf}
 use Rattle.word_rules.specs.Marks.{viewRows}
 use Rattle.word_rules.specs.CellWords.{noAddrMod, placeInRows}
 use Rattle.word_rules.specs.Table.{table, controlRows, storeRows, said, decodeOf}
-use Rattle.word_rules.specs.InRange.{OperandInRange, InRange, PlaceInView, DecodedInRange}
+use Rattle.word_rules.specs.InRange.{OperandInRange, PlaceInView, DecodedInRange}
 use Rattle.word_rules.proofs.Rows.{Each, each-said}
 
 -- ---- in range

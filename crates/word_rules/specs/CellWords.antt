@@ -1,6 +1,6 @@
 -- The words of the matrix unit, block bit B6, that work on source cells and Dest's marks: what each says, and what it does to the
 -- stores. Bits not named are ignored.
-use Prim.Native.Nat.{ℕ, _+_, _*_, _/_, _≤_}
+use Prim.Native.Nat.{ℕ, _+_, _*_, _/_}
 use mathlib.Core.Bool.{Bool, true, cond}
 use mathlib.Core.List.{List}
 use lib.Dec.{eqb, leb, ltb}

@@ -1,20 +1,38 @@
 // What a thread's wait makes of its words now. Nothing here is lent a store.
-pub mod owners;
-mod semaphores;
-
 ghost use mathlib.Core.Path.{_≡_};
 ghost use mathlib.Core.Bool.{true, cond, not, _&&_};
 ghost use Prim.Native.Nat.{_<_};
 ghost use Rattle.machine.specs.Sizes.{threadCount};
-ghost use Rattle.machine.specs.Control.{waitOf};
+ghost use Rattle.machine.specs.Control.{waitOf, unpackersOwn, matrixOwns};
 ghost use Rattle.machine.specs.Formed.{controlFormed};
-ghost use Rattle.word_rules.specs.Waits.{stallHolds};
+ghost use Rattle.word_rules.specs.Waits.{stallHolds, meets, maskedMeets, someMeets};
 ghost use Rattle.word_rules.specs.Offered.{liftedNow, blocksNow};
-use crate::owners::matrix_owns;
-use crate::owners::unpackers_own;
-use crate::semaphores::some_meets;
 use machine::control::Control;
+use machine::control::Semaphore;
 use machine::control::Wait;
+use machine::sizes::SEMAPHORES;
+
+// Whether Unpackers own the bank at a source file's unpack pointer. Internal: file 0 is SrcA, 1 is SrcB.
+pub fn unpackers_own(c: Control, file: usize) -> bool
+    requires { ⌜ (controlFormed c ≡ true) × (file < 2) ⌝ }
+    ensures { λ r. ⌜ r ≡ unpackersOwn c file ⌝ }
+{
+    let pointers = c.pointers;
+    let owners = c.owners;
+    let bank = pointers[2 + file] as usize;
+    owners[2 * file + bank] == 0
+}
+
+// Whether Matrix owns the bank at a source file's matrix pointer. Internal.
+pub fn matrix_owns(c: Control, file: usize) -> bool
+    requires { ⌜ (controlFormed c ≡ true) × (file < 2) ⌝ }
+    ensures { λ r. ⌜ r ≡ matrixOwns c file ⌝ }
+{
+    let pointers = c.pointers;
+    let owners = c.owners;
+    let bank = pointers[file] as usize;
+    owners[2 * file + bank] == 1
+}
 
 // Whether the condition is named and its bank is not owned as it should be.
 fn fails(named: bool, owned: bool) -> bool
@@ -33,6 +51,44 @@ fn stall_holds(c: Control, k: u32) -> bool
     let c7 = fails(k / 128 % 2 == 1, matrix_owns(c, 0));
     let c8 = fails(k / 256 % 2 == 1, matrix_owns(c, 1));
     bits::either(c5, bits::either(c6, bits::either(c7, c8)))
+}
+
+// Whether one semaphore meets the condition.
+fn meets_condition(s: Semaphore, condition: u8) -> bool
+    ensures { λ r. ⌜ r ≡ meets condition s ⌝ }
+{
+    let zero = s.value == 0;
+    let full = s.value == s.maximum;
+    match condition {
+        1 => zero,
+        2 => full,
+        3 => bits::either(zero, full),
+        _ => false,
+    }
+}
+
+// The same where the mask's lowest bit is the semaphore's.
+fn meets_if(s: Semaphore, m: u8, condition: u8) -> bool
+    ensures { λ r. ⌜ r ≡ maskedMeets condition s m ⌝ }
+{
+    bits::both(m % 2 == 1, meets_condition(s, condition))
+}
+
+// Whether some semaphore of the mask meets the condition.
+fn some_meets(all: [Semaphore; SEMAPHORES], mask: u8, condition: u8) -> bool
+    ensures { λ r. ⌜ r ≡ someMeets condition all mask ⌝ }
+{
+    let mut m = mask;
+    let mut i: usize = 0;
+    while i < SEMAPHORES {
+        let s = all[i];
+        if meets_if(s, m, condition) {
+            return true;
+        }
+        m = m / 2;
+        i += 1;
+    }
+    false
 }
 
 // The block bits that a thread's wait stalls, and whether it is lifted, so that a passing word drops it.

@@ -1,7 +1,7 @@
 use mathlib.Core.Path.{ap}
 use Rattle.bits.proofs.Overwrite.{wrote-as}
 use Rattle.machine.specs.Fresh.{machineOf}
-use Rattle.run_order.specs.Streams.{streams}
+use Rattle.run_order.specs.Cursor.{streams}
 use Rattle.run_rules.specs.Run.{Summary}
 use Rattle.program_resume.specs.Told.{toldOf}
 use Rattle.program_resume.proofs.Keeping.{ran-kept}

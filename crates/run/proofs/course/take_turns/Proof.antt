@@ -1,7 +1,7 @@
 use Prim.Native.Nat.{_-_}
 use native.Mathlib.Omega.{arith}
 use Rattle.machine.specs.Machine.{machine}
-use Rattle.run_order.specs.Streams.{streams}
+use Rattle.run_order.specs.Cursor.{streams}
 use Rattle.run_rules.proofs.Halting.{due-after}
 use Rattle.run_rules.proofs.Going.{Going, going-start, going-ends, going-refused, going-on}
 use borrow.Author.Needs.{needs}

@@ -1,7 +1,6 @@
 use borrow.Author.Tests.{ne-eqb}
 use Rattle.machine.specs.Machine.{stores, destOf}
 use Rattle.word_rules.specs.Table.{said}
-use Rattle.word_rules.specs.Offered.{storeOffer}
 use borrow.Author.Needs.{needs}
 use Rattle.step_offer.proofs.store_words.config_word.Statement.{statement}
 use Rattle.step_offer.proofs.store_words.config_word.Tie as tie

@@ -6,8 +6,7 @@ use lib.ListN.{length, take, length-set}
 use borrow.Author.Needs.{needs}
 use Rattle.bits.specs.Values.{values}
 use Rattle.word_rules.specs.Face.{rowAt, faceAt}
-use Rattle.bits.proofs.Values.{fill-step}
-use Rattle.bits.proofs.Values.{fill-end}
+use Rattle.bits.proofs.Values.{fill-step, fill-end}
 use Rattle.word_cell.proofs.face.face_at.Statement.{statement}
 use Rattle.word_cell.proofs.face.face_at.Tie as tie
 

@@ -6,8 +6,7 @@ use lib.ListN.{length, take, getD, length-set}
 use borrow.Author.Needs.{needs}
 use Rattle.bits.specs.Values.{values}
 use Rattle.word_rules.specs.Face.{rowAt}
-use Rattle.bits.proofs.Values.{fill-step}
-use Rattle.bits.proofs.Values.{fill-end}
+use Rattle.bits.proofs.Values.{fill-step, fill-end}
 use Rattle.word_cell.proofs.face.row_at.Statement.{statement}
 use Rattle.word_cell.proofs.face.row_at.Tie as tie
 

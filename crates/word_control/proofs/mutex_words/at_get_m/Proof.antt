@@ -1,12 +1,10 @@
-use mathlib.Core.Path.{sym, _∙_}
-use mathlib.Core.Bool.{true}
+use mathlib.Core.Path.{sym, _∙_, _≡_}
+use mathlib.Core.Bool.{true, false}
 use native.Mathlib.Omega.{arith}
 use borrow.Author.Tests.{ltb-true}
 use Rattle.bits.specs.Field.{field}
 use Rattle.machine.specs.Sizes.{mutexCount}
 use Rattle.word_rules.proofs.Offering.{field-fine, control-stopped, control-going}
-use mathlib.Core.Path.{_≡_}
-use mathlib.Core.Bool.{false}
 use lib.ListN.{getD}
 use Rattle.word_rules.specs.declared.instruction.SyncWord.the-variants.{AtGetM}
 use Rattle.word_rules.specs.declared.instruction.Instruction.the-variants.{Sync}

@@ -1,7 +1,7 @@
 use borrow.Author.Tests.{eq-eqb, ne-eqb}
 use borrow.Author.Needs.{needs}
-use Rattle.word_control.proofs.after.release.Statement.{statement}
-use Rattle.word_control.proofs.after.release.Tie as tie
+use Rattle.word_control.proofs.mutex_words.release.Statement.{statement}
+use Rattle.word_control.proofs.mutex_words.release.Tie as tie
 
 returns : tie.Need-returns
 returns c = rw (eq-eqb _ _ (c .before .if1 .taken)) (c .with-mutex .ensures)

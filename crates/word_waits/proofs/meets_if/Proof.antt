@@ -1,6 +1,6 @@
 use borrow.Author.Needs.{needs}
-use Rattle.word_waits.proofs.semaphores.meets_if.Statement.{statement}
-use Rattle.word_waits.proofs.semaphores.meets_if.Tie as tie
+use Rattle.word_waits.proofs.meets_if.Statement.{statement}
+use Rattle.word_waits.proofs.meets_if.Tie as tie
 
 returns : tie.Need-returns
 returns c = cc

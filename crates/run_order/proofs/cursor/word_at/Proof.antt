@@ -1,8 +1,8 @@
 use borrow.Author.Tests.{lt-ltb, le-ltb}
-use Rattle.run_order.specs.Streams.{wordAt}
+use Rattle.run_order.specs.Cursor.{wordAt}
 use borrow.Author.Needs.{needs}
-use Rattle.run_order.proofs.streams.word_at.Statement.{statement}
-use Rattle.run_order.proofs.streams.word_at.Tie as tie
+use Rattle.run_order.proofs.cursor.word_at.Statement.{statement}
+use Rattle.run_order.proofs.cursor.word_at.Tie as tie
 
 returns : tie.Need-returns
 unfolding wordAt

@@ -1,7 +1,7 @@
 use borrow.Author.Tests.{ne-eqb}
 use borrow.Author.Needs.{needs}
-use Rattle.word_waits.proofs.semaphores.meets_condition.Statement.{statement}
-use Rattle.word_waits.proofs.semaphores.meets_condition.Tie as tie
+use Rattle.word_waits.proofs.meets_condition.Statement.{statement}
+use Rattle.word_waits.proofs.meets_condition.Tie as tie
 
 returns : tie.Need-returns
 returns c = rw (c .match .keys1)

@@ -1,7 +1,7 @@
-use Rattle.run_order.specs.Streams.{usedUp}
+use Rattle.run_order.specs.Cursor.{usedUp}
 use borrow.Author.Needs.{needs}
-use Rattle.run_order.proofs.streams.used_up.Statement.{statement}
-use Rattle.run_order.proofs.streams.used_up.Tie as tie
+use Rattle.run_order.proofs.cursor.used_up.Statement.{statement}
+use Rattle.run_order.proofs.cursor.used_up.Tie as tie
 
 returns : tie.Need-returns
 unfolding usedUp

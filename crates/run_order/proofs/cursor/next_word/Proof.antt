@@ -1,8 +1,8 @@
 use borrow.Author.Tests.{eq-eqb, ne-eqb}
-use Rattle.run_order.specs.Streams.{nextWord}
+use Rattle.run_order.specs.Cursor.{nextWord}
 use borrow.Author.Needs.{needs}
-use Rattle.run_order.proofs.streams.next_word.Statement.{statement}
-use Rattle.run_order.proofs.streams.next_word.Tie as tie
+use Rattle.run_order.proofs.cursor.next_word.Statement.{statement}
+use Rattle.run_order.proofs.cursor.next_word.Tie as tie
 
 returns : tie.Need-returns
 unfolding nextWord

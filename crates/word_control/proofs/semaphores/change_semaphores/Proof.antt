@@ -1,6 +1,6 @@
 use borrow.Author.Needs.{needs}
-use Rattle.word_control.proofs.after.change_semaphores.Statement.{statement}
-use Rattle.word_control.proofs.after.change_semaphores.Tie as tie
+use Rattle.word_control.proofs.semaphores.change_semaphores.Statement.{statement}
+use Rattle.word_control.proofs.semaphores.change_semaphores.Tie as tie
 
 returns : tie.Need-returns
 returns c = rw (c .change-masked .ensures)

@@ -1,6 +1,6 @@
 use borrow.Author.Needs.{needs}
-use Rattle.word_control.proofs.after.drop_if.Statement.{statement}
-use Rattle.word_control.proofs.after.drop_if.Tie as tie
+use Rattle.word_control.proofs.wait_words.drop_if.Statement.{statement}
+use Rattle.word_control.proofs.wait_words.drop_if.Tie as tie
 
 returns : tie.Need-returns
 returns c = rw (c .before .if1 .taken) (c .with-wait .ensures)

@@ -5,8 +5,8 @@ use borrow.Author.Needs.{needs}
 use native.Mathlib.Omega.{arith}
 use mathlib.Core.Path.{_≡_, refl}
 use Prim.Native.Nat.{_≤_, _<_, _-_}
-use Rattle.word_waits.proofs.semaphores.some_meets.Statement.{statement}
-use Rattle.word_waits.proofs.semaphores.some_meets.Tie as tie
+use Rattle.word_waits.proofs.some_meets.Statement.{statement}
+use Rattle.word_waits.proofs.some_meets.Tie as tie
 
 abbrev Inv-loop : tie.InvT-loop
 Inv-loop mask condition all m₀ i₀ m i =

@@ -1,8 +1,8 @@
 use Rattle.machine.proofs.ControlFacts.{pointer-at}
 use native.Mathlib.Omega.{arith}
 use borrow.Author.Needs.{needs}
-use Rattle.word_waits.proofs.owners.matrix_owns.Statement.{statement}
-use Rattle.word_waits.proofs.owners.matrix_owns.Tie as tie
+use Rattle.word_waits.proofs.matrix_owns.Statement.{statement}
+use Rattle.word_waits.proofs.matrix_owns.Tie as tie
 
 add-result : tie.Need-add-result
 add-result c = omega (arith, pointer-at (c .before .before .args .c) (c .before .before .args .file) (c .before .before .pre .0))
