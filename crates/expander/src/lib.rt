@@ -57,7 +57,7 @@ fn refuse(why: Refusal, carried: Carried) -> Expanded
 }
 
 // Writes a stream that was found to be sound and to fit, and tells how many words that is.
-fn write(
+fn write_expansion(
     nine: &[u32],
     carried: Carried,
     input: &[u32],
@@ -105,7 +105,7 @@ fn expand_replayed(
             if limit < seen.count {
                 return refuse(Refusal::ShortOutput, carried);
             }
-            write(nine, carried, input, seen.count, &mut room, out)
+            write_expansion(nine, carried, input, seen.count, &mut room, out)
         }
     }
 }

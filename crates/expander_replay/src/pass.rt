@@ -70,7 +70,7 @@ fn put_written(word: u32, load: Load, slots: &[u32], at: usize, out: &mut [u32])
 }
 
 // What a word makes of the slots.
-fn store_word(word: u32, load: Load, slots: &mut [u32])
+fn take_word(word: u32, load: Load, slots: &mut [u32])
     requires { ⌜ length (now slots) ≡ slotCount ⌝ }
     ensures { λ _. ⌜ now (slots .exit) ≡ slotsAfter (buffer (now (slots .entry)) load) word ⌝ }
 {
@@ -90,7 +90,7 @@ pub fn pass_word(word: u32, p: Passed, slots: &mut [u32], out: &mut [u32]) -> Pa
     let special = bits::either(is_replay(word), is_loading(load));
     if special {
         let at = put_written(word, load, slots, p.at, out);
-        store_word(word, load, slots);
+        take_word(word, load, slots);
         let after = load_after(load, word);
         return Passed { at, load: after };
     }
@@ -113,7 +113,7 @@ fn pass_each(words: &[u32], start: Passed, slots: &mut [u32], out: &mut [u32]) -
 }
 
 // Words in a row as they are.
-fn put_words(words: &[u32], at: usize, out: &mut [u32]) -> usize
+fn put_plain(words: &[u32], at: usize, out: &mut [u32]) -> usize
     requires { ⌜ at + length (now words) ≤ length (now out) ⌝ }
     ensures { λ r. ⌜ Wrote (now (out .entry)) at (now (words .entry)) (now (out .exit)) r ⌝ }
 {
@@ -136,7 +136,7 @@ fn pass_rest(words: &[u32], p: Passed, slots: &mut [u32], out: &mut [u32]) -> Pa
     if special {
         return pass_each(words, p, slots, out);
     }
-    let at = put_words(words, p.at, out);
+    let at = put_plain(words, p.at, out);
     Passed { at, load }
 }
 

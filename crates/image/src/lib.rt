@@ -68,7 +68,7 @@ pub fn save(
 }
 
 // Whether an image is taken, for parts that have their sizes or not.
-fn judge(fits: bool, bytes: &[u8]) -> LoadAnswer
+fn check_load(fits: bool, bytes: &[u8]) -> LoadAnswer
     ensures { λ r. ⌜ toldLoad r ≡ loadCheck fits (now (bytes .entry)) ⌝ }
 {
     if !fits {
@@ -106,7 +106,7 @@ pub fn load(
         src_a,
         src_b,
     );
-    let answer = judge(fits, bytes);
+    let answer = check_load(fits, bytes);
     match answer {
         LoadAnswer::Refused(_) => Loaded { answer, control },
         LoadAnswer::Taken => {

@@ -10,8 +10,7 @@ ghost use Rattle.format.specs.Format.{many};
 ghost use Rattle.image_layout.specs.Control.{semaphoreFormat, locksFormat, waitsFormat, banksFormat, decided};
 ghost use Rattle.image_layout.specs.Image.{controlRecord};
 ghost use Rattle.image_layout.specs.Places.{settingsAt, semaphoresAt, waitsAt, ownersAt, gprsAt};
-use format::HEAD_BYTES;
-use image_layout::GPRS_AT;
+use image_layout::CONTROL_BYTES;
 use image_layout::MUTEXES_AT;
 use image_layout::OWNERS_AT;
 use image_layout::POINTERS_AT;
@@ -26,8 +25,6 @@ use machine::sizes::BANK_OWNERS;
 use machine::sizes::BANK_POINTERS;
 use machine::sizes::MUTEXES;
 use machine::sizes::SEMAPHORES;
-
-const CONTROL_BYTES: u32 = (GPRS_AT - HEAD_BYTES) as u32;
 
 // Reads the semaphores. Internal: their bytes are there.
 fn read_semaphores(s: &[u8]) -> [Semaphore; SEMAPHORES]

@@ -34,9 +34,14 @@ pub const POINTERS_AT: usize = OWNERS_AT + BANK_OWNERS;
 // Kinds 2 and 3: the GPRs and Config.
 pub const GPRS_AT: usize = POINTERS_AT + BANK_POINTERS;
 
+// The first record's body, as its head tells it.
+pub const CONTROL_BYTES: u32 = (GPRS_AT - HEAD_BYTES) as u32;
+
 pub const GPRS_RECORD: usize = HEAD_BYTES + GPRS * 4;
 
 pub const CONFIG_AT: usize = GPRS_AT + GPRS_RECORD;
+
+pub const CONFIG_BODY_AT: usize = CONFIG_AT + HEAD_BYTES;
 
 pub const CONFIG_KIND: u32 = 3;
 

@@ -10,7 +10,7 @@ use format::check::any_fields;
 use format::check::fields;
 use format::check::good_across;
 use format::check::head;
-use image_layout::GPRS_AT;
+use image_layout::CONTROL_BYTES;
 use image_layout::MUTEXES_AT;
 use image_layout::OWNERS_AT;
 use image_layout::POINTERS_AT;
@@ -26,8 +26,6 @@ use machine::sizes::MUTEXES;
 use machine::sizes::SEMAPHORE_MOST;
 use machine::sizes::SEMAPHORES;
 use machine::sizes::SETTINGS;
-
-const CONTROL_BYTES: u32 = (GPRS_AT - HEAD_BYTES) as u32;
 
 // How far the parts stand into the body, and the second and third waits into the waits.
 const TO_MUTEXES: usize = MUTEXES_AT - SETTINGS_AT;

@@ -9,15 +9,12 @@ mod control;
 mod stores;
 mod waits;
 
-use format::HEAD_BYTES;
 use format::check::good_across;
-use image_layout::CONFIG_AT;
+use image_layout::CONFIG_BODY_AT;
 use image_layout::DEST_AT;
 use image_layout::GPRS_AT;
 use image_layout::IMAGE_BYTES;
 use image_layout::SRC_A_AT;
-
-const CONFIG_BODY_AT: usize = CONFIG_AT + HEAD_BYTES;
 
 // The bytes of Dest and its marks, and of all that stands after Config.
 const DEST_BYTES: usize = SRC_A_AT - DEST_AT;

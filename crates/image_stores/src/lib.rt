@@ -14,6 +14,7 @@ ghost use Rattle.image_layout.specs.Image.{configKind, wordsFormat, destFormat,
 ghost use Rattle.image_layout.specs.Places.{gprsAt, destAt, sourceAAt};
 use format::HEAD_BYTES;
 use image_layout::CONFIG_AT;
+use image_layout::CONFIG_BODY_AT;
 use image_layout::CONFIG_KIND;
 use image_layout::DEST_AT;
 use image_layout::DEST_RECORD;
@@ -25,8 +26,6 @@ use image_layout::SRC_B_AT;
 
 // Where the bodies start, and how long those of Dest and its marks are.
 const GPRS_BODY_AT: usize = GPRS_AT + HEAD_BYTES;
-
-const CONFIG_BODY_AT: usize = CONFIG_AT + HEAD_BYTES;
 
 const DEST_BODY_AT: usize = DEST_AT + HEAD_BYTES;
 

@@ -135,7 +135,7 @@ fn write_load(out: &mut [u8], at: usize, load: Load)
 }
 
 // The whole record of what is carried, into as many bytes. There is room.
-fn write_record(out: &mut [u8], carried: Carried)
+fn write_carried(out: &mut [u8], carried: Carried)
     requires { ⌜ length (now out) ≡ recordBytes ⌝ }
     ensures { λ _. ⌜ Wrote (now (out .entry)) 0 (recordFormat .put carried) (now (out .exit)) recordBytes ⌝ }
 {
@@ -152,7 +152,7 @@ pub fn carried_record(carried: Carried) -> [u8; RECORD_BYTES]
     ensures { λ r. ⌜ r ≡ recordFormat .put carried ⌝ }
 {
     let mut bytes = [0u8; RECORD_BYTES];
-    write_record(&mut bytes, carried);
+    write_carried(&mut bytes, carried);
     bytes
 }
 

@@ -12,8 +12,8 @@ told-alike : (bs cs : List ℕ) (r : ScriptRead) → Bad r → byScript bs r ≡
 told-alike bs cs (Sound s) h = absurd h
 told-alike bs cs (BadAt n) h = refl
 
-pub long-inputs : LongScripts
+pub long-scripts : LongScripts
 unfolding emulationOf
-long-inputs bs more h =
+long-scripts bs more h =
     let x = script-longer bs more h in
     rw (x .0) (told-alike (bs ++ more) bs (scriptOf bs) (x .1))

@@ -27,9 +27,9 @@ parts-longer : (came t more : List ℕ) → length t ≡ resumeScriptMost + 1 �
 unfolding printedOf
 parts-longer came t more h = rw (records-longer came t more (imageMachine came) h)
 
-pub long-inputs : LongResumes
+pub long-resumes : LongResumes
 unfolding resumeOf
-long-inputs bs more h =
+long-resumes bs more h =
     let d = length-drop imageSize bs in
     rw (take-append-le imageSize bs more (omega arith), drop-append-le imageSize bs more (omega arith))
     (parts-longer (take imageSize bs) (drop imageSize bs) more (omega arith))

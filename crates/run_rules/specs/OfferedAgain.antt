@@ -4,6 +4,7 @@ use mathlib.Core.Path.{_≡_}
 use mathlib.Core.Bool.{Bool, true, false, cond}
 use mathlib.Core.List.{List, _∷_, _++_}
 use lib.Dec.{eqb}
+use Rattle.machine.specs.Sizes.{threadCount}
 use Rattle.machine.specs.Machine.{Machine}
 use Rattle.machine.specs.Answers.{Told, accepted, refused}
 use Rattle.machine.specs.Outcomes.{Progress, stalled, hasPassed}
@@ -23,7 +24,7 @@ wasRefused (refused n vs) = true
 -- from c to e by a turn with this outcome
 pub record Moves (o : Told Progress) (c e : Cursor) : Type 0 where
   -- no position moves but that of the thread whose turn it is, and that only past a passed word
-  pub others : (t : ℕ) → t < 3 → (t ≡ c .next → ⊥) → positionOf e t ≡ positionOf c t
+  pub others : (t : ℕ) → t < threadCount → (t ≡ c .next → ⊥) → positionOf e t ≡ positionOf c t
   pub own : positionOf e (c .next) ≡ cond (hasPassed o) (positionOf c (c .next) + 1) (positionOf c (c .next))
   -- an idle, passed or stalled turn goes on to the following thread; a refused word's stays
   pub next : e .next ≡ cond (wasRefused o) (c .next) (following (c .next))
@@ -34,7 +35,7 @@ pub record SameWord (s : Streams) (c e : Cursor) : Type 0 where
   pub word : nextWord s e ≡ nextWord s c
 
 pub record OfferedAgain : Type 0 where
-  pub moves : (s : Streams) (m : Machine) (c : Cursor) → c .next < 3 → Moves (turnOf s m c .outcome) c (turnOf s m c .cursor)
+  pub moves : (s : Streams) (m : Machine) (c : Cursor) → c .next < threadCount → Moves (turnOf s m c .outcome) c (turnOf s m c .cursor)
   -- where a turn of a run stalls and the two after it are not refused, the word that it was offered is its thread's word again
   pub again : (s : Streams) (m : Machine) (c : Cursor) (budget : ℕ) (earlier : List Turn) (t u v : Turn) (later : List Turn) →
       runOf s m c budget .turns ≡ earlier ++ (t ∷ u ∷ v ∷ later) →

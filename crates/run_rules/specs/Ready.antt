@@ -4,7 +4,7 @@ use mathlib.Core.Path.{_≡_}
 use mathlib.Core.Bool.{true}
 use mathlib.Core.List.{List}
 use lib.ListN.{length}
-use Rattle.machine.specs.Sizes.{streamMost}
+use Rattle.machine.specs.Sizes.{streamMost, threadCount}
 use Rattle.machine.specs.Machine.{Machine}
 use Rattle.machine.specs.Formed.{wellFormed}
 use Rattle.run_order.specs.declared.cursor.Cursor.{Cursor}
@@ -21,7 +21,7 @@ pub record Within (s : Streams) (c : Cursor) : Type 0 where
   pub at0 : c .at0 ≤ length (s .s0)
   pub at1 : c .at1 ≤ length (s .s1)
   pub at2 : c .at2 ≤ length (s .s2)
-  pub thread : c .next < 3
+  pub thread : c .next < threadCount
 
 pub record Ready (s : Streams) (m : Machine) (c : Cursor) : Type 0 where
   pub whole : wellFormed m ≡ true

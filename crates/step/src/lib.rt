@@ -15,7 +15,7 @@ use step_offer::offer;
 use word_rules::stepped::Stepped;
 
 // Refusals 4, 10 and 1.
-fn check_call(
+fn check_step(
     control: Control,
     settings: &[u16],
     gprs: &[u32],
@@ -50,7 +50,7 @@ pub fn step(
 ) -> Stepped
     ensures { λ r. ⌜ stepped (toldOutcome (r .outcome)) (machine (r .control) (now (settings .exit)) (now (gprs .exit)) (now (config .exit)) (now (dest .entry)) (now (marks .exit)) (now («src_a» .exit)) (now («src_b» .exit))) ≡ stepOf (machine control (now (settings .entry)) (now (gprs .entry)) (now (config .entry)) (now (dest .entry)) (now (marks .entry)) (now («src_a» .entry)) (now («src_b» .entry))) thread word ⌝ }
 {
-    let k = check_call(
+    let k = check_step(
         control,
         &settings[..],
         &gprs[..],

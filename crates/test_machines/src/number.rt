@@ -20,7 +20,7 @@ pub struct Number {
     pub value: u32,
 }
 
-fn with_mutex(c: Control, place: usize, v: u32) -> Control {
+fn with_holder(c: Control, place: usize, v: u32) -> Control {
     let mut d = c;
     d.mutexes[place % MUTEXES] = (v % 256) as u8;
     d
@@ -70,7 +70,7 @@ pub fn set_number(c: Control, n: Number) -> Control {
     let v = n.value;
     let kind = n.kind;
     match kind {
-        1 => with_mutex(c, place, v),
+        1 => with_holder(c, place, v),
         2 => with_semaphore(c, place, v),
         3 => with_owner(c, place, v),
         4 => with_pointer(c, place, v),

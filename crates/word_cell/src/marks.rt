@@ -1,6 +1,6 @@
 // ZEROACC: the valid marks of Dest's storage rows, cleared by rows of a view.
 ghost use mathlib.Core.Path.{_≡_};
-ghost use Prim.Native.Nat.{_+_, _*_, _≤_, _<_};
+ghost use Prim.Native.Nat.{_+_, _*_, _/_, _≤_, _<_};
 ghost use mathlib.Core.Bool.{false};
 ghost use lib.ListN.{length, replicate};
 ghost use Rattle.machine.specs.Sizes.{configBanks, configCount, markCount};
@@ -132,8 +132,8 @@ pub(crate) fn zero_marks(
     requires { ⌜ (length (now marks) ≡ markCount) × (length (now config) ≡ configCount) × (bank < configBanks) × PlaceInView mode wide place ⌝ }
     ensures whole { λ _. ⌜ now (marks .exit) ≡ afterZeroAcc bank mode wide place (now (config .entry)) (now (marks .entry)) ⌝ }
     ensures rows { λ _. ⌜ RowsCleared wide (flagsIn bank (now (config .entry))) (firstRow mode wide place) (rowCount mode wide) (now (marks .entry)) (now (marks .exit)) ⌝ }
-    ensures half { λ _. ⌜ (mode ≡ 2 → now (marks .exit) ≡ over (now (marks .entry)) (512 * place) (replicate 512 false)) ⌝ }
-    ensures all { λ _. ⌜ (mode ≡ 3 → now (marks .exit) ≡ replicate 1024 false) ⌝ }
+    ensures half { λ _. ⌜ (mode ≡ 2 → now (marks .exit) ≡ over (now (marks .entry)) (markCount / 2 * place) (replicate (markCount / 2) false)) ⌝ }
+    ensures all { λ _. ⌜ (mode ≡ 3 → now (marks .exit) ≡ replicate markCount false) ⌝ }
 {
     if mode < 2 {
         let flags = flags_of(config[config_place(bank, FLAG_WORD)]);

@@ -17,7 +17,7 @@ pub fn source(word: u32) -> GprNumber
 }
 
 // WRCFG: 128-bit 15.
-pub fn wide(word: u32) -> bool
+pub fn copies_four(word: u32) -> bool
     ensures { λ r. ⌜ r ≡ flag 15 word ⌝ }
 {
     (word >> 15) % 2 == 1
@@ -61,14 +61,14 @@ pub fn entry(word: u32) -> u8
 }
 
 // SETC16: value 0–15.
-pub fn value(word: u32) -> u16
+pub fn entry_value(word: u32) -> u16
     ensures { λ r. ⌜ r ≡ field 0 16 word ⌝ }
 {
     ((word >> 0) % 65536) as u16
 }
 
 // RMWCIB0–3: mask 16–23.
-pub fn mask(word: u32) -> u8
+pub fn byte_mask(word: u32) -> u8
     ensures { λ r. ⌜ r ≡ field 16 8 word ⌝ }
 {
     ((word >> 16) % 256) as u8

@@ -14,16 +14,16 @@ ghost use Rattle.machine.specs.Outcomes.{toldOutcome};
 ghost use Rattle.word_rules.specs.ConfigWords.{wrCfgOf, rdCfgOf, setC16Of, rmwCibOf};
 ghost use Rattle.word_rules.specs.Offered.{ConfigOffered};
 use crate::fields::byte_index;
+use crate::fields::byte_mask;
+use crate::fields::copies_four;
 use crate::fields::entry;
+use crate::fields::entry_value;
 use crate::fields::index;
 use crate::fields::index_fine;
-use crate::fields::mask;
 use crate::fields::new_bits;
 use crate::fields::source;
 use crate::fields::target;
 use crate::fields::target_and_index_fine;
-use crate::fields::value;
-use crate::fields::wide;
 use crate::moves::read_config;
 use crate::moves::rmw_byte;
 use crate::moves::write_config;
@@ -54,7 +54,15 @@ pub fn wr_cfg(
         return verdict(true, fine, stalls);
     }
     let bank = bank_of(settings, t);
-    write_config(gprs, config, t, bank, source(word), wide(word), index(word));
+    write_config(
+        gprs,
+        config,
+        t,
+        bank,
+        source(word),
+        copies_four(word),
+        index(word),
+    );
     Outcome::Passed
 }
 
@@ -89,7 +97,7 @@ pub fn set_c16(settings: &mut [u16], t: usize, word: u32, blocks: u16) -> Outcom
     if stalls {
         return Outcome::Stalled(StallCause::WaitHolds);
     }
-    set_setting(settings, t, entry(word), value(word));
+    set_setting(settings, t, entry(word), entry_value(word));
     Outcome::Passed
 }
 
@@ -114,7 +122,7 @@ pub fn rmw_cib(
         config,
         bank,
         byte,
-        mask(word),
+        byte_mask(word),
         new_bits(word),
         byte_index(word),
     );

@@ -50,7 +50,7 @@ pub fn maximum(word: u32) -> u8
 }
 
 // SEMINIT: value 16–19.
-pub fn value(word: u32) -> u8
+pub fn init_value(word: u32) -> u8
     ensures { λ r. ⌜ r ≡ field 16 4 word ⌝ }
 {
     ((word >> 16) % 16) as u8

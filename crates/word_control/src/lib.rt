@@ -17,8 +17,8 @@ ghost use Rattle.word_rules.specs.Table.{controlRows, has, said};
 ghost use Rattle.word_rules.specs.Offered.{toldStepped, controlOffer};
 use crate::bank_words::clear_dvalid;
 use crate::bank_words::set_dvalid;
+use crate::fields::init_value;
 use crate::fields::maximum;
-use crate::fields::value;
 use crate::mutex_words::at_get_m;
 use crate::mutex_words::at_rel_m;
 use crate::semaphore_words::change_word;
@@ -62,7 +62,7 @@ pub fn control_word(c: Control, t: usize, op: u32, word: u32, blocks: u16, drops
         0xA2 => stall_wait(c, t, word, blocks, drops),
         0xA3 => {
             let k = SemaphoreChange::Init {
-                value: value(word),
+                value: init_value(word),
                 maximum: maximum(word),
             };
             change_word(c, t, word, k, blocks, drops)

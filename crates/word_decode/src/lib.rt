@@ -40,26 +40,26 @@ fn provided_fine(fine_word: bool, fine_field: bool, instruction: Instruction) ->
 }
 
 // RMWCIB0 to RMWCIB3: the opcode says which byte.
-fn rmw_cib(word: u32, byte: u8) -> Instruction
+fn decode_rmw_cib(word: u32, byte: u8) -> Instruction
     ensures { λ r. ⌜ accepted r ≡ rmwCibOf byte word ⌝ }
 {
     Instruction::Config(ConfigWord::RmwCib {
         byte,
-        mask: config::mask(word),
+        mask: config::byte_mask(word),
         value: config::new_bits(word),
         index: config::byte_index(word),
     })
 }
 
 // B7; any other opcode is 2.
-fn config_word(op: u32, word: u32) -> Decoded
+fn decode_config(op: u32, word: u32) -> Decoded
     ensures { λ r. ⌜ toldDecoded r ≡ said configRows op word ⌝ }
 {
     match op {
         0xB0 => {
             let says = Instruction::Config(ConfigWord::WrCfg {
                 gpr: config::source(word),
-                wide: config::wide(word),
+                wide: config::copies_four(word),
                 index: config::index(word),
             });
             provided_fine(true, config::index_fine(word), says)
@@ -73,18 +73,18 @@ fn config_word(op: u32, word: u32) -> Decoded
         }
         0xB2 => Decoded::Decodes(Instruction::Config(ConfigWord::SetC16 {
             entry: config::entry(word),
-            value: config::value(word),
+            value: config::entry_value(word),
         })),
-        0xB3 => Decoded::Decodes(rmw_cib(word, 0)),
-        0xB4 => Decoded::Decodes(rmw_cib(word, 1)),
-        0xB5 => Decoded::Decodes(rmw_cib(word, 2)),
-        0xB6 => Decoded::Decodes(rmw_cib(word, 3)),
+        0xB3 => Decoded::Decodes(decode_rmw_cib(word, 0)),
+        0xB4 => Decoded::Decodes(decode_rmw_cib(word, 1)),
+        0xB5 => Decoded::Decodes(decode_rmw_cib(word, 2)),
+        0xB6 => Decoded::Decodes(decode_rmw_cib(word, 3)),
         _ => Decoded::Refused(Refusal::BadWord),
     }
 }
 
 // SEMINIT, SEMPOST, SEMGET and SEMWAIT. Internal: the opcode is not one of the sync words before them.
-fn semaphore_word(op: u32, word: u32) -> Decoded
+fn decode_semaphore(op: u32, word: u32) -> Decoded
     requires { ⌜ (eqb op 0xA0 ≡ false) × (eqb op 0xA1 ≡ false) × (eqb op 0xA2 ≡ false) ⌝ }
     ensures { λ r. ⌜ toldDecoded r ≡ said (syncRows ++ configRows) op word ⌝ }
 {
@@ -92,7 +92,7 @@ fn semaphore_word(op: u32, word: u32) -> Decoded
     match op {
         0xA3 => Decoded::Decodes(Instruction::Sync(SyncWord::SemInit {
             maximum: control::maximum(word),
-            value: control::value(word),
+            value: control::init_value(word),
             mask,
         })),
         0xA4 => Decoded::Decodes(Instruction::Sync(SyncWord::SemPost { mask })),
@@ -102,12 +102,12 @@ fn semaphore_word(op: u32, word: u32) -> Decoded
             mask,
             condition: control::condition(word),
         })),
-        _ => config_word(op, word),
+        _ => decode_config(op, word),
     }
 }
 
 // B1.
-fn sync_word(op: u32, word: u32) -> Decoded
+fn decode_sync(op: u32, word: u32) -> Decoded
     ensures { λ r. ⌜ toldDecoded r ≡ said (syncRows ++ configRows) op word ⌝ }
 {
     let mutex = control::mutex(word);
@@ -126,12 +126,12 @@ fn sync_word(op: u32, word: u32) -> Decoded
             block: control::block(word),
             conditions: control::conditions(word),
         })),
-        _ => semaphore_word(op, word),
+        _ => decode_semaphore(op, word),
     }
 }
 
 // B5.
-fn scalar_word(op: u32, word: u32) -> Decoded
+fn decode_scalar(op: u32, word: u32) -> Decoded
     ensures { λ r. ⌜ toldDecoded r ≡ said (scalarRows ++ (syncRows ++ configRows)) op word ⌝ }
 {
     let result = scalar::result(word);
@@ -148,12 +148,12 @@ fn scalar_word(op: u32, word: u32) -> Decoded
         0x58 => Decoded::Decodes(Instruction::Scalar(ScalarWord::AddDmaReg { result, a, b })),
         0x5A => Decoded::Decodes(Instruction::Scalar(ScalarWord::MulDmaReg { result, a, b })),
         0x60 => Decoded::Decodes(Instruction::Scalar(ScalarWord::DmaNop)),
-        _ => sync_word(op, word),
+        _ => decode_sync(op, word),
     }
 }
 
 // B6: bank owners and pointers.
-fn bank_word(op: u32, word: u32) -> Decoded
+fn decode_bank(op: u32, word: u32) -> Decoded
     ensures { λ r. ⌜ toldDecoded r ≡ said (bankRows ++ (scalarRows ++ (syncRows ++ configRows))) op word ⌝ }
 {
     match op {
@@ -167,12 +167,12 @@ fn bank_word(op: u32, word: u32) -> Decoded
             a: control::sets_a(word),
             b: control::sets_b(word),
         })),
-        _ => scalar_word(op, word),
+        _ => decode_scalar(op, word),
     }
 }
 
 // B6: source cells and marks.
-fn cell_word(op: u32, word: u32) -> Decoded
+fn decode_cell(op: u32, word: u32) -> Decoded
     ensures { λ r. ⌜ toldDecoded r ≡ said (cellRows ++ (bankRows ++ (scalarRows ++ (syncRows ++ configRows)))) op word ⌝ }
 {
     match op {
@@ -193,7 +193,7 @@ fn cell_word(op: u32, word: u32) -> Decoded
             });
             provided_fine(cell::no_addr_mod(word), cell::place_fine(word), says)
         }
-        _ => bank_word(op, word),
+        _ => decode_bank(op, word),
     }
 }
 
@@ -205,5 +205,5 @@ pub fn decode(word: u32) -> Decoded
     if op == 0x02 {
         return Decoded::Decodes(Instruction::Nop);
     }
-    cell_word(op, word)
+    decode_cell(op, word)
 }

@@ -18,7 +18,7 @@ use crate::fields::result;
 use crate::fields::value;
 use crate::registers::combined;
 use crate::registers::operand_of;
-use crate::registers::write_half;
+use crate::registers::write_half_register;
 use machine::refusal::Outcome;
 use machine::refusal::StallCause;
 use machine::units::gpr_place;
@@ -37,7 +37,7 @@ pub fn set_dma_reg(gprs: &mut [u32], t: usize, word: u32, blocks: u16) -> Outcom
     if stopped(fine, true, stalls) {
         return verdict(fine, true, stalls);
     }
-    write_half(gprs, t, half(word), value(word));
+    write_half_register(gprs, t, half(word), value(word));
     Outcome::Passed
 }
 

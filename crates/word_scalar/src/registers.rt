@@ -22,7 +22,7 @@ fn with_half(half: HalfRegister, value: u16, x: u32) -> u32
 }
 
 // SETDMAREG. Internal, as all below: the store has its size, and the numbers are in range.
-pub(crate) fn write_half(gprs: &mut [u32], t: usize, half: HalfRegister, value: u16)
+pub(crate) fn write_half_register(gprs: &mut [u32], t: usize, half: HalfRegister, value: u16)
     requires { ⌜ (length (now gprs) ≡ gprCount) × (t < threadCount) × (half .0 < 128) ⌝ }
     ensures { λ _. ⌜ now (gprs .exit) ≡ afterSetDmaReg t half value (now (gprs .entry)) ⌝ }
 {

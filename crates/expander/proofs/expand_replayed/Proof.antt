@@ -58,7 +58,7 @@ returns-3 c =
     let s = start (e .before .before .before) in
     let k = sound e in
     let fits = w .before .before .before .if1 .left in
-    w .write .ensures ∙ sym (enough-room (s .pre .0) (s .args .out .now) (k .fault) (omega (arith, fits, s .pre .1, k .needed)))
+    w .write-expansion .ensures ∙ sym (enough-room (s .pre .0) (s .args .out .now) (k .fault) (omega (arith, fits, s .pre .1, k .needed)))
 
 pub expand-replayed-spec : {M : Type 1} → statement M
 expand-replayed-spec =

@@ -27,8 +27,8 @@ handed c =
 abbrev bytes : tie.After-judge → List ℕ
 bytes c = start c .args .bytes .now
 
-judged : (c : tie.After-judge) → toldLoad (c .judge .result) ≡ loadCheck (sized (handed c)) (bytes c)
-judged c = c .judge .ensures ∙ ap (λ (f : Bool). loadCheck f (bytes c)) (c .before .machine-sized .ensures)
+judged : (c : tie.After-judge) → toldLoad (c .check-load .result) ≡ loadCheck (sized (handed c)) (bytes c)
+judged c = c .check-load .ensures ∙ ap (λ (f : Bool). loadCheck f (bytes c)) (c .before .machine-sized .ensures)
 
 taken : (c : tie.After-enum-told2) → (sized (handed (c .before .before)) ≡ true) × (accepts image (bytes (c .before .before)) ≡ true)
 taken c =

@@ -9,7 +9,7 @@ use Rattle.program_carried.proofs.carried_record.Tie as tie
 
 returns : tie.Need-returns
 returns c =
-    let w = c .before .write-record .ensures in
+    let w = c .before .write-carried .ensures in
     w .list ∙ over-whole (replicate recordBytes 0) (recordFormat .put (c .before .before .before .args .carried)) (omega (arith, w .placed))
 
 pub carried-record-spec : {M : Type 1} → statement M

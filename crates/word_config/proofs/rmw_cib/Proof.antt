@@ -13,7 +13,7 @@ unfolding configAfter configSettings
 returns-2 c gprs owned bankA bankB k =
     let w = c .before .before in
     let q = w .before .before .before .before .before .before in
-    rw (w .rmw-byte .ensures, w .before .byte-index .ensures, w .before .before .new-bits .ensures, w .before .before .before .mask .ensures, w .before .before .before .before .before .bank-of .ensures)
+    rw (w .rmw-byte .ensures, w .before .byte-index .ensures, w .before .before .new-bits .ensures, w .before .before .before .byte-mask .ensures, w .before .before .before .before .before .bank-of .ensures)
     (store-going true true _ _ owned _ bankA bankB _ (q .before .b7 .ensures) _ _ (q .if1 .left))
 
 pub rmw-cib-spec : {M : Type 1} → statement M

@@ -13,7 +13,7 @@ unfolding configAfter configSettings
 returns-2 c gprs config owned bankA bankB k =
     let w = c .before .before in
     let q = w .before .before .before .before in
-    rw (w .set-setting .ensures, w .before .value .ensures, w .before .before .entry .ensures)
+    rw (w .set-setting .ensures, w .before .entry-value .ensures, w .before .before .entry .ensures)
     (store-going true true _ _ owned _ bankA bankB _ (q .before .b7 .ensures) _ _ (q .if1 .left))
 
 pub set-c16-spec : {M : Type 1} → statement M

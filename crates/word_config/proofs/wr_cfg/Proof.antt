@@ -33,7 +33,7 @@ returns-2 c owned bankA bankB k =
     let q = w .before .before .before .before .before .before in
     let b = q .before .before in
     let fine = b .before .index-fine in
-    rw (w .write-config .ensures, w .before .index .ensures, w .before .before .wide .ensures, w .before .before .before .source .ensures, w .before .before .before .before .before .bank-of .ensures, ← fine .ensures)
+    rw (w .write-config .ensures, w .before .index .ensures, w .before .before .copies-four .ensures, w .before .before .before .source .ensures, w .before .before .before .before .before .bank-of .ensures, ← fine .ensures)
     (store-going true (fine .result) _ _ owned _ bankA bankB _ (b .b7 .ensures) _ _ (sym (q .before .stopped .ensures) ∙ q .if1 .left))
 
 pub wr-cfg-spec : {M : Type 1} → statement M

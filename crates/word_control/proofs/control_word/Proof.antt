@@ -29,7 +29,7 @@ returns-5 c = rw (c .before .match .keys5) (c .stall-wait .ensures)
 returns-6 : tie.Need-returns-6
 unfolding said
 returns-6 c =
-    rw (c .before .before .before .match .keys6, ← c .before .before .value .ensures, ← c .before .maximum .ensures) (c .change-word .ensures _ (record { waits = λ c t. refl; after = λ c t. refl }))
+    rw (c .before .before .before .match .keys6, ← c .before .before .init-value .ensures, ← c .before .maximum .ensures) (c .change-word .ensures _ (record { waits = λ c t. refl; after = λ c t. refl }))
 
 returns-7 : tie.Need-returns-7
 unfolding said

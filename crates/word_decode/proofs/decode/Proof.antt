@@ -10,7 +10,7 @@ returns c = rw (eq-eqb _ _ (c .if1 .taken))
 
 returns-2 : tie.Need-returns-2
 unfolding said decodeOf
-returns-2 c = rw (ne-eqb _ _ (c .before .if1 .left)) (c .cell-word .ensures)
+returns-2 c = rw (ne-eqb _ _ (c .before .if1 .left)) (c .decode-cell .ensures)
 
 pub decode-spec : {M : Type 1} → statement M
 decode-spec = tie.close (tie.spec returns (λ c κs. search needs) returns-2)

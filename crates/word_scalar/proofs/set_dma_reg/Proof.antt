@@ -27,7 +27,7 @@ returns-2 c owned bankA bankB s k =
     let q = w .before .before .before .before in
     let b = q .before .before in
     let fine = b .before .is-plain in
-    rw (w .write-half .ensures, w .before .value .ensures, w .before .before .half .ensures, ← fine .ensures)
+    rw (w .write-half-register .ensures, w .before .value .ensures, w .before .before .half .ensures, ← fine .ensures)
     (store-going (fine .result) true _ _ owned _ bankA bankB _ (b .b5 .ensures) s _ (sym (q .before .stopped .ensures) ∙ q .if1 .left))
 
 pub set-dma-reg-spec : {M : Type 1} → statement M

@@ -29,7 +29,7 @@ returns-2 c =
     let w = c .before .before in
     let e = w .before .before in
     let a = start e .args in
-    passes-plain (a .slots .now) (a .p) (a .words .now) (plain e .0) (plain e .1) _ (w .put-words .ensures) refl
+    passes-plain (a .slots .now) (a .p) (a .words .now) (plain e .0) (plain e .1) _ (w .put-plain .ensures) refl
 
 pub pass-rest-spec : {M : Type 1} → statement M
 pass-rest-spec =

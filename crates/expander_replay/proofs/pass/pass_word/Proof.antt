@@ -34,7 +34,7 @@ returns c =
     let t = c .before .before .before in
     let w = t .before .before .before .before in
     let a = start (w .before .before .before .before) .args in
-    passes-one (a .slots .now) (a .p) (a .word) _ (w .put-written .ensures) (t .store-word .ensures) (c .load-after .ensures)
+    passes-one (a .slots .now) (a .p) (a .word) _ (w .put-written .ensures) (t .take-word .ensures) (c .load-after .ensures)
 
 put-word-requires : tie.Need-put-word-requires
 put-word-requires c κs =

@@ -1,7 +1,7 @@
 use borrow.Author.Needs.{needs}
 use Rattle.expander_rules.specs.Replay.{slotsAfter}
-use Rattle.expander_replay.proofs.pass.store_word.Statement.{statement}
-use Rattle.expander_replay.proofs.pass.store_word.Tie as tie
+use Rattle.expander_replay.proofs.pass.take_word.Statement.{statement}
+use Rattle.expander_replay.proofs.pass.take_word.Tie as tie
 
 returns : tie.Need-returns
 unfolding slotsAfter
@@ -11,8 +11,8 @@ returns-2 : tie.Need-returns-2
 unfolding slotsAfter
 returns-2 c = rw (← c .before .is-loading .ensures, c .if1 .left)
 
-pub store-word-spec : {M : Type 1} → statement M
-store-word-spec =
+pub take-word-spec : {M : Type 1} → statement M
+take-word-spec =
     tie.close
     (tie.spec (λ c κs. search needs) (λ c κs. search needs) (λ c. search needs) (λ c. search needs) (λ c. search needs) (λ c. search needs) returns
     returns-2)

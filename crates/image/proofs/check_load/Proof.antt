@@ -3,8 +3,8 @@ use borrow.Author.Tests.{not-true, not-false}
 use Rattle.machine.proofs.Checks.{held, failed}
 use Rattle.format.specs.Format.{accepts}
 use Rattle.image.proofs.Answers.{judged-unsized, judged-bad, judged-taken}
-use Rattle.image.proofs.judge.Statement.{statement}
-use Rattle.image.proofs.judge.Tie as tie
+use Rattle.image.proofs.check_load.Statement.{statement}
+use Rattle.image.proofs.check_load.Tie as tie
 
 returns : tie.Need-returns
 returns c = judged-unsized _ _ (not-true _ (c .if1 .taken))
@@ -22,5 +22,5 @@ returns-3 c =
     let scanned = c .before .before in
     judged-taken _ _ (not-false _ (scanned .before .if1 .left)) (held (scanned .scan .ensures .1) (c .if2 .left))
 
-pub judge-spec : {M : Type 1} → statement M
-judge-spec = tie.close (tie.spec returns (λ c κs. search needs) returns-2 returns-3)
+pub check-load-spec : {M : Type 1} → statement M
+check-load-spec = tie.close (tie.spec returns (λ c κs. search needs) returns-2 returns-3)

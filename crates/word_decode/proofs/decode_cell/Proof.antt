@@ -1,8 +1,8 @@
 use borrow.Author.Tests.{ne-eqb}
 use Rattle.word_rules.specs.Table.{said}
 use borrow.Author.Needs.{needs}
-use Rattle.word_decode.proofs.cell_word.Statement.{statement}
-use Rattle.word_decode.proofs.cell_word.Tie as tie
+use Rattle.word_decode.proofs.decode_cell.Statement.{statement}
+use Rattle.word_decode.proofs.decode_cell.Tie as tie
 
 returns : tie.Need-returns
 unfolding said
@@ -22,10 +22,10 @@ returns-4 : tie.Need-returns-4
 unfolding said
 returns-4 c =
     let m = c .before in
-    rw (ne-eqb _ _ (m .match .rest .1), ne-eqb _ _ (m .match .rest .0 .1), ne-eqb _ _ (m .match .rest .0 .0 .1)) (c .bank-word .ensures)
+    rw (ne-eqb _ _ (m .match .rest .1), ne-eqb _ _ (m .match .rest .0 .1), ne-eqb _ _ (m .match .rest .0 .0 .1)) (c .decode-bank .ensures)
 
-pub cell-word-spec : {M : Type 1} → statement M
-cell-word-spec =
+pub decode-cell-spec : {M : Type 1} → statement M
+decode-cell-spec =
     tie.close
     (tie.spec
     (λ c κs. search needs)

@@ -1,13 +1,13 @@
 use borrow.Author.Tests.{ne-eqb}
 use Rattle.word_rules.specs.Table.{said}
 use borrow.Author.Needs.{needs}
-use Rattle.word_decode.proofs.semaphore_word.Statement.{statement}
-use Rattle.word_decode.proofs.semaphore_word.Tie as tie
+use Rattle.word_decode.proofs.decode_semaphore.Statement.{statement}
+use Rattle.word_decode.proofs.decode_semaphore.Tie as tie
 
 returns : tie.Need-returns
 unfolding said
 returns c =
-    rw (c .before .before .match .keys1, c .before .before .before .mask .ensures, c .before .maximum .ensures, c .value .ensures)
+    rw (c .before .before .match .keys1, c .before .before .before .mask .ensures, c .before .maximum .ensures, c .init-value .ensures)
 
 returns-2 : tie.Need-returns-2
 unfolding said
@@ -27,10 +27,10 @@ unfolding said
 returns-5 c =
     let m = c .before in
     let p = m .before .before .pre in
-    rw (p .0, p .1, p .2, ne-eqb _ _ (m .match .rest .1), ne-eqb _ _ (m .match .rest .0 .1), ne-eqb _ _ (m .match .rest .0 .0 .1), ne-eqb _ _ (m .match .rest .0 .0 .0 .1)) (c .config-word .ensures)
+    rw (p .0, p .1, p .2, ne-eqb _ _ (m .match .rest .1), ne-eqb _ _ (m .match .rest .0 .1), ne-eqb _ _ (m .match .rest .0 .0 .1), ne-eqb _ _ (m .match .rest .0 .0 .0 .1)) (c .decode-config .ensures)
 
-pub semaphore-word-spec : {M : Type 1} → statement M
-semaphore-word-spec =
+pub decode-semaphore-spec : {M : Type 1} → statement M
+decode-semaphore-spec =
     tie.close
     (tie.spec
     (λ c κs. search needs)

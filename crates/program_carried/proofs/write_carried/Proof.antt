@@ -7,8 +7,8 @@ use Rattle.format.proofs.Writes.{wrote-next, wrote-to, wrote-from}
 use Rattle.format.specs.Format.{headBytes}
 use Rattle.expander_rules.specs.Sizes.{slotCount}
 use Rattle.program_carried.specs.CarriedFormat.{slotBytes, recordBytes}
-use Rattle.program_carried.proofs.write_record.Statement.{statement}
-use Rattle.program_carried.proofs.write_record.Tie as tie
+use Rattle.program_carried.proofs.write_carried.Statement.{statement}
+use Rattle.program_carried.proofs.write_carried.Tie as tie
 
 slots-long : (s : tie.Start) → length (s .args .carried .slots) ≡ slotCount
 slots-long s = search needs
@@ -33,8 +33,8 @@ returns c =
     (λ h'. wrote-next h' (w .write-words .ensures)
     (λ _. wrote-from (headBytes + (2 + slotBytes)) (omega (arith, slots-long s)) (l .write-load .ensures)))))
 
-pub write-record-spec : {M : Type 1} → statement M
-write-record-spec =
+pub write-carried-spec : {M : Type 1} → statement M
+write-carried-spec =
     tie.close
     (tie.spec (λ c κs. search needs) (λ c κs. search needs) (λ c. search needs) (λ c. search needs) write-words-requires (λ c. search needs)
     (λ c κs. search needs) (λ c. search needs) returns)

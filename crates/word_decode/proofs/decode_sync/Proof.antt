@@ -1,8 +1,8 @@
 use borrow.Author.Tests.{ne-eqb}
 use Rattle.word_rules.specs.Table.{said}
 use borrow.Author.Needs.{needs}
-use Rattle.word_decode.proofs.sync_word.Statement.{statement}
-use Rattle.word_decode.proofs.sync_word.Tie as tie
+use Rattle.word_decode.proofs.decode_sync.Statement.{statement}
+use Rattle.word_decode.proofs.decode_sync.Tie as tie
 
 semaphore-word-requires : tie.Need-semaphore-word-requires
 semaphore-word-requires c κs = (ne-eqb _ _ (c .match .rest .0 .0 .1), ne-eqb _ _ (c .match .rest .0 .1), ne-eqb _ _ (c .match .rest .1))
@@ -23,10 +23,10 @@ returns-3 c = rw (c .before .before .match .keys3, c .before .block .ensures, c 
 
 returns-4 : tie.Need-returns-4
 unfolding said
-returns-4 c = c .semaphore-word .ensures
+returns-4 c = c .decode-semaphore .ensures
 
-pub sync-word-spec : {M : Type 1} → statement M
-sync-word-spec =
+pub decode-sync-spec : {M : Type 1} → statement M
+decode-sync-spec =
     tie.close
     (tie.spec
     (λ c κs. search needs)

@@ -1,8 +1,8 @@
 use borrow.Author.Tests.{ne-eqb}
 use Rattle.word_rules.specs.Table.{said}
 use borrow.Author.Needs.{needs}
-use Rattle.word_decode.proofs.scalar_word.Statement.{statement}
-use Rattle.word_decode.proofs.scalar_word.Tie as tie
+use Rattle.word_decode.proofs.decode_scalar.Statement.{statement}
+use Rattle.word_decode.proofs.decode_scalar.Tie as tie
 
 returns : tie.Need-returns
 unfolding said
@@ -27,10 +27,10 @@ returns-5 : tie.Need-returns-5
 unfolding said
 returns-5 c =
     let m = c .before in
-    rw (ne-eqb _ _ (m .match .rest .1), ne-eqb _ _ (m .match .rest .0 .1), ne-eqb _ _ (m .match .rest .0 .0 .1), ne-eqb _ _ (m .match .rest .0 .0 .0 .1)) (c .sync-word .ensures)
+    rw (ne-eqb _ _ (m .match .rest .1), ne-eqb _ _ (m .match .rest .0 .1), ne-eqb _ _ (m .match .rest .0 .0 .1), ne-eqb _ _ (m .match .rest .0 .0 .0 .1)) (c .decode-sync .ensures)
 
-pub scalar-word-spec : {M : Type 1} → statement M
-scalar-word-spec =
+pub decode-scalar-spec : {M : Type 1} → statement M
+decode-scalar-spec =
     tie.close
     (tie.spec
     (λ c κs. search needs)

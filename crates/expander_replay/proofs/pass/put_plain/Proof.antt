@@ -5,8 +5,8 @@ use lib.ListN.{length, getD, drop, drop-of-length-le}
 use borrow.Author.Needs.{needs}
 use Rattle.expander_rules.proofs.Words.{words-next}
 use Rattle.expander_templates.proofs.Writing.{Left, left-start, left-room, left-next, left-done}
-use Rattle.expander_replay.proofs.pass.put_words.Statement.{statement}
-use Rattle.expander_replay.proofs.pass.put_words.Tie as tie
+use Rattle.expander_replay.proofs.pass.put_plain.Statement.{statement}
+use Rattle.expander_replay.proofs.pass.put_plain.Tie as tie
 
 abbrev Inv-loop : tie.InvT-loop
 Inv-loop words at out₀ p₀ i₀ out p i = (i ≤ length words) × Left out₀ at words out p (drop i words)
@@ -37,8 +37,8 @@ same-length c = c .before .loop .inv .1 .as-long
 returns : tie.Need-returns Inv-loop μ-loop
 returns c = left-done (c .before .loop .inv .1) (drop-of-length-le (c .before .before .before .before .args .words .now) (c .loop-test .left))
 
-pub put-words-spec : {M : Type 1} → statement M
-put-words-spec =
+pub put-plain-spec : {M : Type 1} → statement M
+put-plain-spec =
     tie.close
     (tie.spec Inv-loop μ-loop loop-holds (λ c. search needs) (λ c. search needs) put-word-requires (λ c. search needs) (λ c. search needs) loop-again
     same-length returns)

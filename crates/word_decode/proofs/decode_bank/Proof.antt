@@ -1,8 +1,8 @@
 use borrow.Author.Tests.{ne-eqb}
 use Rattle.word_rules.specs.Table.{said}
 use borrow.Author.Needs.{needs}
-use Rattle.word_decode.proofs.bank_word.Statement.{statement}
-use Rattle.word_decode.proofs.bank_word.Tie as tie
+use Rattle.word_decode.proofs.decode_bank.Statement.{statement}
+use Rattle.word_decode.proofs.decode_bank.Tie as tie
 
 returns : tie.Need-returns
 unfolding said
@@ -17,10 +17,10 @@ returns-3 : tie.Need-returns-3
 unfolding said
 returns-3 c =
     let m = c .before in
-    rw (ne-eqb _ _ (m .match .rest .1), ne-eqb _ _ (m .match .rest .0 .1)) (c .scalar-word .ensures)
+    rw (ne-eqb _ _ (m .match .rest .1), ne-eqb _ _ (m .match .rest .0 .1)) (c .decode-scalar .ensures)
 
-pub bank-word-spec : {M : Type 1} → statement M
-bank-word-spec =
+pub decode-bank-spec : {M : Type 1} → statement M
+decode-bank-spec =
     tie.close
     (tie.spec
     (λ c κs. search needs)

@@ -1,9 +1,0 @@
-use borrow.Author.Needs.{needs}
-use Rattle.word_decode.proofs.rmw_cib.Statement.{statement}
-use Rattle.word_decode.proofs.rmw_cib.Tie as tie
-
-returns : tie.Need-returns
-returns c = rw (c .before .before .mask .ensures, c .before .new-bits .ensures, c .byte-index .ensures)
-
-pub rmw-cib-spec : {M : Type 1} → statement M
-rmw-cib-spec = tie.close (tie.spec (λ c κs. search needs) (λ c κs. search needs) (λ c κs. search needs) returns)
