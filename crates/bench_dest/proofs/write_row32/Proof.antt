@@ -24,10 +24,12 @@ write-stored-requires c κs =
 
 write-stored-requires-2 : tie.Need-write-stored-requires-2
 write-stored-requires-2 c κs =
-    let a = c .before .before .before .before .before .before .before .before .before .before .before .before .before .before .before .before .before .before .before .before .before .before .args in
+    let m = c .before .before .before .before .before .before .before .before .before .before .before in
+    let a = m .before .before .before .before .before .before .before .before .before .before .before .args in
     let w = c .before .before .before .before .before .before .before .write-stored .kept in
-    let f = found32 (a .config .now) (destOf (a .dest .now) (a .marks .now)) (a .bank) (a .row) _ _ (rw (c .before .before .before .before .before .before .before .before .before .before .before .before .before .before .high .given .1) at (c .before .before .before .before .before .before .before .before .before .before .before .before .before .before .before .before .find32 .ensures)) in
-    (w .0 ∙ f .dest-long, w .1 .0 ∙ f .marks-long, f .low-within, rw (c .before .before .before .before .before .before .before .before .before .before .before .halves-of2 .ensures, length-map) (c .before .before .before .before .before .before .before .before .before .before .before .before .before .before .before .before .before .if1 .left))
+    let h = rw (m .before .before .before .high .given .1) at (m .before .before .before .before .before .find32 .ensures) in
+    let f = found32 (a .config .now) (destOf (a .dest .now) (a .marks .now)) (a .bank) (a .row) _ _ h in
+    (w .0 ∙ f .dest-long, w .1 .0 ∙ f .marks-long, f .low-within, rw (m .halves-of2 .ensures, length-map) (m .before .before .before .before .before .before .if1 .left))
 
 returns-2 : tie.Need-returns-2
 unfolding writeRow32Of
@@ -40,12 +42,14 @@ returns-2 c =
 returns-3 : tie.Need-returns-3
 unfolding writeRow32Of
 returns-3 c =
-    let a = c .before .before .before .before .before .before .before .before .before .before .before .before .before .before .before .before .before .before .before .before .before .before .before .before .before .before .before .args in
+    let m = c .before .before .before .before .before .before .before .before .before .before .before .before .before .before .before .before in
+    let a = m .before .before .before .before .before .before .before .before .before .before .before .args in
     let s = destOf (a .dest .now) (a .marks .now) in
     let x = rows32At (a .config .now) (a .bank) (a .row) in
-    let h = rw (c .before .before .before .before .before .before .before .before .before .before .before .before .before .before .before .before .before .before .before .high .given .1) at (c .before .before .before .before .before .before .before .before .before .before .before .before .before .before .before .before .before .before .before .before .before .find32 .ensures) in
+    let h = rw (m .before .before .before .high .given .1) at (m .before .before .before .before .before .find32 .ensures) in
     let f = found32 (a .config .now) s (a .bank) (a .row) _ _ h in
-    rw (c .before .before .before .before .write-stored2 .ensures, c .before .before .before .before .before .before .before .before .before .before .before .before .write-stored .ensures, c .before .before .before .before .before .before .before .before .before .before .before .before .before .before .before .before .before .halves-of .ensures, c .before .before .before .before .before .before .before .before .before .before .before .before .before .before .before .before .halves-of2 .ensures, f .high-same, f .low-same) (write-found (a .config .now) s (a .bank) (a .row) rows32 x (a .cells .now) _ h (c .before .before .before .before .before .before .before .before .before .before .before .before .before .before .before .before .before .before .before .before .before .before .if1 .left))
+    let w = write-found (a .config .now) s (a .bank) (a .row) rows32 x (a .cells .now) _ h (m .before .before .before .before .before .before .if1 .left) in
+    rw (c .before .before .before .before .write-stored2 .ensures, c .before .before .before .before .before .before .before .before .before .before .before .before .write-stored .ensures, m .before .halves-of .ensures, m .halves-of2 .ensures, f .high-same, f .low-same) w
 
 pub write-row32-spec : {M : Type 1} → statement M
 write-row32-spec =

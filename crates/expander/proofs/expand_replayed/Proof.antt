@@ -36,8 +36,8 @@ returns c =
     rw (c .refuse2 .ensures .0, c .refuse2 .ensures .1)
     (sym (little-room (s .pre .0) (s .args .out .now) (k .fault) (omega (arith, c .before .if1 .taken, s .pre .1, k .needed))))
 
-write-requires : tie.Need-write-requires
-write-requires c κs =
+write-expansion-requires : tie.Need-write-expansion-requires
+write-expansion-requires c κs =
     let e = c .before .before .before .before in
     let s = start (e .before .before .before) in
     let k = sound e in
@@ -64,4 +64,4 @@ pub expand-replayed-spec : {M : Type 1} → statement M
 expand-replayed-spec =
     tie.close
     (tie.spec (λ c κs. search needs) (λ c. search needs) (λ c κs. search needs) (λ c. search needs) (λ c κs. search needs) (λ c. search needs)
-    (λ c κs. search needs) returns (λ c. search needs) write-requires returns-2 (λ c. search needs) returns-3)
+    (λ c κs. search needs) returns (λ c. search needs) write-expansion-requires returns-2 (λ c. search needs) returns-3)

@@ -15,19 +15,19 @@ use Rattle.image.proofs.Answers.{taken-means, load-refused, load-taken}
 use Rattle.image.proofs.load.Statement.{statement}
 use Rattle.image.proofs.load.Tie as tie
 
-abbrev start : tie.After-judge → tie.Start
+abbrev start : tie.After-check-load → tie.Start
 start c = c .before .before .before .before .before .before .before .before .before .before .before .before .before .before .before .before .before
 
 -- the machine that is handed in, and the image
-abbrev handed : tie.After-judge → Machine
+abbrev handed : tie.After-check-load → Machine
 handed c =
     let a = start c .args in
     machine (a .control) (a .settings .now) (a .gprs .now) (a .config .now) (a .dest .now) (a .marks .now) (a .src-a .now) (a .src-b .now)
 
-abbrev bytes : tie.After-judge → List ℕ
+abbrev bytes : tie.After-check-load → List ℕ
 bytes c = start c .args .bytes .now
 
-judged : (c : tie.After-judge) → toldLoad (c .check-load .result) ≡ loadCheck (sized (handed c)) (bytes c)
+judged : (c : tie.After-check-load) → toldLoad (c .check-load .result) ≡ loadCheck (sized (handed c)) (bytes c)
 judged c = c .check-load .ensures ∙ ap (λ (f : Bool). loadCheck f (bytes c)) (c .before .machine-sized .ensures)
 
 taken : (c : tie.After-enum-told2) → (sized (handed (c .before .before)) ≡ true) × (accepts image (bytes (c .before .before)) ≡ true)

@@ -16,7 +16,7 @@ offer-requires c κs =
 
 returns : tie.Need-returns
 returns c =
-    let k = c .before .before .before .check-call in
+    let k = c .before .before .before .check-step in
     call-refused _ _ (k .result) (k .ensures) _ _ (c .before .k .given .1)
 
 returns-2 : tie.Need-returns-2

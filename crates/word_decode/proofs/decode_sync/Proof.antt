@@ -4,8 +4,8 @@ use borrow.Author.Needs.{needs}
 use Rattle.word_decode.proofs.decode_sync.Statement.{statement}
 use Rattle.word_decode.proofs.decode_sync.Tie as tie
 
-semaphore-word-requires : tie.Need-semaphore-word-requires
-semaphore-word-requires c κs = (ne-eqb _ _ (c .match .rest .0 .0 .1), ne-eqb _ _ (c .match .rest .0 .1), ne-eqb _ _ (c .match .rest .1))
+decode-semaphore-requires : tie.Need-decode-semaphore-requires
+decode-semaphore-requires c κs = (ne-eqb _ _ (c .match .rest .0 .0 .1), ne-eqb _ _ (c .match .rest .0 .1), ne-eqb _ _ (c .match .rest .1))
 
 returns : tie.Need-returns
 unfolding said
@@ -36,7 +36,7 @@ decode-sync-spec =
     (λ c κs. search needs)
     (λ c κs. search needs)
     (λ c κs. search needs)
-    semaphore-word-requires
+    decode-semaphore-requires
     returns
     returns-2
     returns-3

@@ -15,8 +15,8 @@ returns c owned bankA bankB s k =
     rw (← fine .ensures)
     (store-stopped (fine .result) true _ _ owned _ bankA bankB _ (b .b5 .ensures) s _ _ (sym (q .before .stopped .ensures) ∙ q .if1 .taken) (c .verdict .ensures))
 
-write-half-requires : tie.Need-write-half-requires
-write-half-requires c κs =
+write-half-register-requires : tie.Need-write-half-register-requires
+write-half-register-requires c κs =
     let p = c .before .before .before .before .before .before .before .before .pre in
     (p .0, p .1, rw (c .before .half .ensures) (omega arith))
 
@@ -41,6 +41,6 @@ set-dma-reg-spec =
     returns
     (λ c κs. search needs)
     (λ c κs. search needs)
-    write-half-requires
+    write-half-register-requires
     (λ c. search needs)
     returns-2)

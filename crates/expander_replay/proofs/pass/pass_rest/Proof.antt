@@ -18,8 +18,8 @@ plain c =
     let n = neither (r .before .is-loading .result) (r .any-replay .result) (sym (c .before .either .ensures) ∙ c .if1 .left) in
     (sym (r .before .is-loading .ensures) ∙ n .0, sym (r .any-replay .ensures) ∙ n .1)
 
-put-words-requires : tie.Need-put-words-requires
-put-words-requires c κs =
+put-plain-requires : tie.Need-put-plain-requires
+put-plain-requires c κs =
     let e = c .before in
     let a = start e .args in
     plain-fits (a .slots .now) (a .p) (a .words .now) (plain e .0) (plain e .1) (start e .pre)
@@ -35,4 +35,4 @@ pub pass-rest-spec : {M : Type 1} → statement M
 pass-rest-spec =
     tie.close
     (tie.spec (λ c κs. search needs) (λ c κs. search needs) (λ c κs. search needs) (λ c κs. search needs) (λ c. search needs) (λ c. search needs)
-    (λ c. search needs) put-words-requires (λ c. search needs) returns-2)
+    (λ c. search needs) put-plain-requires (λ c. search needs) returns-2)

@@ -26,8 +26,8 @@ put-written-requires c κs =
     let s = start (c .before .before .before) in
     (s .pre .slots, one-fits (s .args .slots .now) (s .args .p) (s .args .word) (s .pre))
 
-store-word-requires : tie.Need-store-word-requires
-store-word-requires c κs = start (c .before .before .before .before .before .before .before) .pre .slots
+take-word-requires : tie.Need-take-word-requires
+take-word-requires c κs = start (c .before .before .before .before .before .before .before) .pre .slots
 
 returns : tie.Need-returns
 returns c =
@@ -52,5 +52,5 @@ returns-2 c =
 pub pass-word-spec : {M : Type 1} → statement M
 pass-word-spec =
     tie.close
-    (tie.spec (λ c κs. search needs) (λ c κs. search needs) (λ c κs. search needs) put-written-requires store-word-requires (λ c κs. search needs)
+    (tie.spec (λ c κs. search needs) (λ c κs. search needs) (λ c κs. search needs) put-written-requires take-word-requires (λ c κs. search needs)
     (λ c. search needs) (λ c. search needs) returns put-word-requires (λ c. search needs) returns-2)

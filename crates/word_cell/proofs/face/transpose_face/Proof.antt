@@ -8,7 +8,11 @@ use Rattle.word_cell.proofs.face.transpose_face.Tie as tie
 
 returns : tie.Need-returns
 unfolding faceTransposed
-returns c = let e : c .before .before .write-face .last .0 ≡ faceTransposed (c .before .before .before .before .before .before .before .before .args .at) (now (c .before .before .before .before .before .before .before .before .args .s)) = rw (c .before .before .write-face .ensures, c .before .before .before .before .transpose .ensures, c .before .before .before .before .before .face-at .ensures) in (e, rw e (cells-transposed _ _ (c .before .before .before .before .before .before .before .before .pre)))
+returns c =
+    let s = c .before .before .before .before .before .before .before .before in
+    let e : c .before .before .write-face .last .0 ≡ faceTransposed (s .args .at) (now (s .args .s)) =
+    rw (c .before .before .write-face .ensures, c .before .before .before .before .transpose .ensures, c .before .before .before .before .before .face-at .ensures) in
+    (e, rw e (cells-transposed _ _ (s .pre)))
 
 pub transpose-face-spec : {M : Type 1} → statement M
 transpose-face-spec =
