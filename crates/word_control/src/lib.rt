@@ -9,12 +9,15 @@ mod semaphores;
 pub mod wait_words;
 
 ghost use mathlib.Core.Path.{_≡_};
-ghost use mathlib.Core.Bool.{true};
+ghost use mathlib.Core.Bool.{true, cond};
+ghost use lib.Dec.{eqb};
+ghost use Rattle.bits.specs.Field.{field};
 ghost use Prim.Native.Nat.{_<_};
 ghost use Rattle.machine.specs.Sizes.{threadCount};
 ghost use Rattle.machine.specs.Formed.{controlFormed};
 ghost use Rattle.word_rules.specs.Table.{controlRows, has, said};
 ghost use Rattle.word_rules.specs.Offered.{toldStepped, controlOffer};
+ghost use Rattle.word_rules.specs.declared.semaphore_change.SemaphoreChange.the-variants.{Init, Up, Down};
 use crate::bank_words::clear_dvalid;
 use crate::bank_words::set_dvalid;
 use crate::fields::init_value;
@@ -25,8 +28,6 @@ use crate::semaphore_words::change_word;
 use crate::wait_words::sem_wait;
 use crate::wait_words::stall_wait;
 use machine::control::Control;
-use machine::refusal::Outcome;
-use machine::refusal::Refusal;
 use word_rules::semaphore_change::SemaphoreChange;
 use word_rules::stepped::Stepped;
 
@@ -48,10 +49,25 @@ pub fn on_control(op: u32) -> bool
     }
 }
 
-// Such a word, offered by thread t, whose wait stalls these block bits now, and is lifted or not. Internal: the control part and the
-// thread are in range.
+// What SEMINIT, SEMPOST and SEMGET do to each semaphore of their mask.
+fn change_of(op: u32, word: u32) -> SemaphoreChange
+    ensures { λ r. ⌜ r ≡ cond (eqb op 0xA3) (Init (field 16 4 word) (field 20 4 word)) (cond (eqb op 0xA4) Up Down) ⌝ }
+{
+    match op {
+        0xA3 => SemaphoreChange::Init {
+            value: init_value(word),
+            maximum: maximum(word),
+        },
+        0xA4 => SemaphoreChange::Up,
+        _ => SemaphoreChange::Down,
+    }
+}
+
+// Such a word, offered by thread t, whose wait stalls these block bits now, and is lifted or not. The three that change semaphores are
+// one call: in three it is not inlined, and the control part goes through memory. Internal: the opcode is such a word's, and the
+// control part and the thread are in range.
 pub fn control_word(c: Control, t: usize, op: u32, word: u32, blocks: u16, drops: bool) -> Stepped
-    requires { ⌜ (controlFormed c ≡ true) × (t < threadCount) ⌝ }
+    requires { ⌜ (controlFormed c ≡ true) × (t < threadCount) × (has controlRows op ≡ true) ⌝ }
     ensures { λ r. ⌜ toldStepped r ≡ controlOffer blocks drops c t (said controlRows op word) ⌝ }
 {
     match op {
@@ -60,19 +76,7 @@ pub fn control_word(c: Control, t: usize, op: u32, word: u32, blocks: u16, drops
         0xA0 => at_get_m(c, t, word, blocks, drops),
         0xA1 => at_rel_m(c, t, word, blocks, drops),
         0xA2 => stall_wait(c, t, word, blocks, drops),
-        0xA3 => {
-            let k = SemaphoreChange::Init {
-                value: init_value(word),
-                maximum: maximum(word),
-            };
-            change_word(c, t, word, k, blocks, drops)
-        }
-        0xA4 => change_word(c, t, word, SemaphoreChange::Up, blocks, drops),
-        0xA5 => change_word(c, t, word, SemaphoreChange::Down, blocks, drops),
         0xA6 => sem_wait(c, t, word, blocks, drops),
-        _ => Stepped {
-            outcome: Outcome::Refused(Refusal::BadWord),
-            control: c,
-        },
+        _ => change_word(c, t, word, change_of(op, word), blocks, drops),
     }
 }

@@ -1,3 +1,4 @@
+use mathlib.Core.Path.{sym, _∙_}
 use native.Mathlib.Omega.{arith}
 use Rattle.machine.specs.Machine.{stores, destOf}
 use Rattle.machine.proofs.ControlFacts.{pointer-at}
@@ -5,6 +6,11 @@ use Rattle.step_rules.proofs.Offering.{offer-on-control, offer-on-stores}
 use borrow.Author.Needs.{needs}
 use Rattle.step_offer.proofs.offer.Statement.{statement}
 use Rattle.step_offer.proofs.offer.Tie as tie
+
+control-word-requires : tie.Need-control-word-requires
+control-word-requires c κs =
+    let s = c .before .before .before .before .before .before .before .before .before in
+    (s .pre .6, s .pre .7, sym (c .before .on-control .ensures) ∙ c .if1 .taken)
 
 returns : tie.Need-returns
 returns c cells =
@@ -45,7 +51,7 @@ offer-spec =
     (tie.spec
     (λ c κs. search needs)
     (λ c κs. search needs)
-    (λ c κs. search needs)
+    control-word-requires
     returns
     (λ c κs. search needs)
     (λ c. search needs)
