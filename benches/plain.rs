@@ -41,15 +41,16 @@ fn next_job(input: &mut &[u8]) -> Option<Job> {
 fn runs(job: &Job) -> String {
     let mut m = seeded::machine(job.seed);
     m.control = machine::Control::default();
-    let (mut turns, mut ending) = (0u32, 0);
+    let (mut turns, mut ending, mut stalls) = (0u32, 0, 0);
     for _ in 0..job.times {
         let streams = black_box([&job.parts[0][..], &job.parts[1][..], &job.parts[2][..]]);
         let ran = run::run(&mut m, streams, run::Cursor::default(), black_box(job.limit));
         turns = turns.wrapping_add(ran.turns);
         ending = ran.ending.number();
+        stalls = ran.stalls.iter().flatten().map(|(number, cause)| number + cause).sum::<u32>();
         black_box(ran.cursor);
     }
-    format!("run {} {} {}", ending, turns, seeded::digest(&m))
+    format!("run {} {} {} {}", ending, turns, stalls, seeded::digest(&m))
 }
 
 fn saves(job: &Job) -> String {

@@ -20,6 +20,8 @@ pub struct Ran {
     pub ending: Ending,
     pub turns: u32,
     pub cursor: Cursor,
+    // Each thread's last stall: number and cause.
+    pub stalls: [Option<(u32, u32)>; 3],
 }
 
 impl Ending {
@@ -51,11 +53,12 @@ fn call_refusal(m: &Machine, streams: &[&[u32]; 3], cursor: &Cursor, budget: u32
 #[inline(never)]
 pub fn run(m: &mut Machine, streams: [&[u32]; 3], cursor: Cursor, budget: u32) -> Ran {
     if let Some(number) = call_refusal(m, &streams, &cursor, budget) {
-        return Ran { ending: Ending::CallRefused(number), turns: 0, cursor };
+        return Ran { ending: Ending::CallRefused(number), turns: 0, cursor, stalls: [None; 3] };
     }
     let mut c = cursor;
     let mut left: usize = (0..3).map(|t| streams[t].len() - c.at[t]).sum();
     let (mut quiet, mut turns) = (0, 0);
+    let mut stalls = [None; 3];
     let ending = loop {
         if left == 0 {
             break Ending::Finished;
@@ -75,7 +78,11 @@ pub fn run(m: &mut Machine, streams: [&[u32]; 3], cursor: Cursor, budget: u32) -
         if let Outcome::Refused(number) = outcome {
             break Ending::WordRefused(number);
         }
+        if let Outcome::Stalled(number, cause) = outcome {
+            stalls[t] = Some((number, cause));
+        }
         if outcome == Outcome::Passed {
+            stalls[t] = None;
             c.at[t] += 1;
             left -= 1;
             quiet = 0;
@@ -84,5 +91,5 @@ pub fn run(m: &mut Machine, streams: [&[u32]; 3], cursor: Cursor, budget: u32) -
         }
         c.next = if t < 2 { t + 1 } else { 0 };
     };
-    Ran { ending, turns, cursor: c }
+    Ran { ending, turns, cursor: c, stalls }
 }

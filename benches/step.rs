@@ -5,7 +5,8 @@ use crate::machine::{Control, Machine, Wait};
 pub enum Outcome {
     Idle,
     Passed,
-    Stalled(u32),
+    // The number and the cause.
+    Stalled(u32, u32),
     Refused(u32),
 }
 
@@ -30,36 +31,49 @@ impl Control {
         self.owners[(pointer & 1) * 2 + (self.pointers[pointer] & 1) as usize]
     }
 
-    fn wait_holds(&self, wait: Wait) -> bool {
+    // What the wait is held by.
+    fn held_by(&self, wait: Wait) -> Option<u32> {
         match wait {
-            Wait::None => false,
+            Wait::None => None,
             Wait::Stall { conditions, .. } => {
-                bit(conditions as u32, 5) && self.owner_at_pointer(2) != 0
-                    || bit(conditions as u32, 6) && self.owner_at_pointer(3) != 0
-                    || bit(conditions as u32, 7) && self.owner_at_pointer(0) != 1
-                    || bit(conditions as u32, 8) && self.owner_at_pointer(1) != 1
+                let named = |place: u32| bit(conditions as u32, place);
+                if named(5) && self.owner_at_pointer(2) != 0 {
+                    Some(5)
+                } else if named(6) && self.owner_at_pointer(3) != 0 {
+                    Some(6)
+                } else if named(7) && self.owner_at_pointer(0) != 1 {
+                    Some(7)
+                } else if named(8) && self.owner_at_pointer(1) != 1 {
+                    Some(8)
+                } else {
+                    None
+                }
             }
             Wait::Semaphore { mut mask, condition, .. } => {
                 while mask != 0 {
-                    let s = self.semaphores[mask.trailing_zeros() as usize & 7];
-                    if condition & 1 != 0 && s.value == 0 || condition & 2 != 0 && s.value == s.maximum {
-                        return true;
+                    let n = mask.trailing_zeros();
+                    let s = self.semaphores[n as usize & 7];
+                    if condition & 1 != 0 && s.value == 0 {
+                        return Some(n + 16);
+                    }
+                    if condition & 2 != 0 && s.value == s.maximum {
+                        return Some(n + 24);
                     }
                     mask &= mask - 1;
                 }
-                false
+                None
             }
         }
     }
 
-    // Whether a word of the unit may not pass; a lifted wait is dropped once the word passes.
-    fn wait_stalls(&self, t: usize, unit: u32) -> bool {
-        let (Wait::Stall { block, .. } | Wait::Semaphore { block, .. }) = self.waits[t] else { return false };
-        bit(block as u32, unit) && self.wait_holds(self.waits[t])
+    // Why a word of the unit may not pass; a lifted wait is dropped once the word passes.
+    fn wait_stalls(&self, t: usize, unit: u32) -> Option<u32> {
+        let (Wait::Stall { block, .. } | Wait::Semaphore { block, .. }) = self.waits[t] else { return None };
+        if bit(block as u32, unit) { self.held_by(self.waits[t]) } else { None }
     }
 
     fn drop_lifted(&mut self, t: usize) {
-        if !matches!(self.waits[t], Wait::None) && !self.wait_holds(self.waits[t]) {
+        if !matches!(self.waits[t], Wait::None) && self.held_by(self.waits[t]).is_none() {
             self.waits[t] = Wait::None;
         }
     }
@@ -142,13 +156,13 @@ impl Machine {
         if bit(word, 23) { b as u32 } else { self.gprs[t][b] }
     }
 
-    // The first three tests of a word that does not stall by itself.
-    fn passes(&mut self, t: usize, unit: u32) -> bool {
-        if self.control.wait_stalls(t, unit) {
-            return false;
+    // The stall of a word that does not stall by itself.
+    fn stall(&mut self, t: usize, unit: u32) -> Option<Outcome> {
+        if let Some(cause) = self.control.wait_stalls(t, unit) {
+            return Some(Stalled(101, cause));
         }
         self.control.drop_lifted(t);
-        true
+        None
     }
 
     pub fn offer(&mut self, t: usize, word: u32) -> Outcome {
@@ -171,11 +185,11 @@ impl Machine {
         if moves && field(word, 14, 3) != 0 {
             return Refused(2);
         }
-        if self.control.wait_stalls(t, MATRIX) {
-            return Stalled(101);
+        if let Some(cause) = self.control.wait_stalls(t, MATRIX) {
+            return Stalled(101, cause);
         }
         if self.control.owner_at_pointer(1) != 1 {
-            return Stalled(103);
+            return Stalled(103, self.control.pointers[1] as u32);
         }
         self.control.drop_lifted(t);
         if moves {
@@ -195,16 +209,16 @@ impl Machine {
         if place >= [rows, rows / 16, 2, usize::MAX][mode] {
             return Refused(3);
         }
-        if !self.passes(t, MATRIX) {
-            return Stalled(101);
+        if let Some(stall) = self.stall(t, MATRIX) {
+            return stall;
         }
         self.zero_acc(t, mode, wide, place);
         Passed
     }
 
     fn bank_word(&mut self, t: usize, word: u32) -> Outcome {
-        if !self.passes(t, MATRIX) {
-            return Stalled(101);
+        if let Some(stall) = self.stall(t, MATRIX) {
+            return stall;
         }
         let c = &mut self.control;
         if word >> 24 == 0x57 {
@@ -231,8 +245,8 @@ impl Machine {
         if word >> 24 == 0x45 && bit(word, 7) {
             return Refused(2);
         }
-        if !self.passes(t, SCALAR) {
-            return Stalled(101);
+        if let Some(stall) = self.stall(t, SCALAR) {
+            return stall;
         }
         let (result, x) = (field(word, 12, 6), self.gprs[t][field(word, 0, 6)]);
         match word >> 24 {
@@ -253,13 +267,13 @@ impl Machine {
         if word >> 24 <= 0xA1 && mutex > 7 {
             return Refused(3);
         }
-        if self.control.wait_stalls(t, SYNC) {
-            return Stalled(101);
+        if let Some(cause) = self.control.wait_stalls(t, SYNC) {
+            return Stalled(101, cause);
         }
         if word >> 24 == 0xA0 {
             let holder = self.control.mutexes[mutex & 7];
             if holder != 0 && holder != t as u8 + 1 {
-                return Stalled(102);
+                return Stalled(102, holder as u32 - 1);
             }
         }
         self.control.drop_lifted(t);
@@ -292,8 +306,8 @@ impl Machine {
         if op <= 0xB1 && index > 255 || op == 0xB1 && field(word, 16, 8) > 63 {
             return Refused(3);
         }
-        if !self.passes(t, CONFIG) {
-            return Stalled(101);
+        if let Some(stall) = self.stall(t, CONFIG) {
+            return stall;
         }
         let bank = self.config_bank(t);
         match op {

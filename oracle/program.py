@@ -1,5 +1,5 @@
-"""The programs: `emulate` (document 01, "Program and cases"), `resume`, which also takes and gives an image, and `expand`, which
-is one call of the expander: a piece of a stream, or the close after the last one.
+"""The programs: `emulate` (document 01, "Program and cases"; document 02, K3), `resume`, which also takes and gives an image,
+and `expand`, which is one call of the expander: a piece of a stream, or the close after the last one.
 
     python3 oracle/program.py emulate < FILE
     python3 oracle/program.py resume < FILE
@@ -91,12 +91,21 @@ def lines(*texts):
     return ''.join(text + '\n' for text in texts).encode('ascii')
 
 
+def thread_line(result, streams, thread):
+    """How far the thread came and, only where the run is stuck, what it waits for."""
+    line = f't{thread} {result.cursor.positions[thread]}/{len(streams[thread])}'
+    if result.answer != ('stuck',) or result.stalls[thread] is None:
+        return line
+    number, cause = result.stalls[thread]
+    return f'{line} waits {number} {cause}'
+
+
 def summary(result, streams):
     """The five lines of a run."""
     return lines(
         ' '.join(['end'] + [str(part) for part in result.answer]),
         f'turns {result.turns}',
-        *(f't{thread} {result.cursor.positions[thread]}/{len(streams[thread])}' for thread in range(3)))
+        *(thread_line(result, streams, thread) for thread in range(3)))
 
 
 def emulate(data):

@@ -1,4 +1,4 @@
-"""A run: three streams, a cursor and a budget of turns (document 01, "A run")."""
+"""A run: three streams, a cursor and a budget of turns (document 01, "A run"; document 02, K3)."""
 
 from collections import namedtuple
 
@@ -13,8 +13,10 @@ Cursor = namedtuple('Cursor', 'positions next')
 START = Cursor((0, 0, 0), 0)
 
 # answer: ('finished',), ('stuck',), ('budget',), ('refused', n) for a refused word, or ('rejected', n) for a
-# refused call. trace: the outcome of each turn, ('idle',), ('passed',), ('stalled', n) or ('refused', n).
-Run = namedtuple('Run', 'answer turns cursor trace')
+# refused call. trace: the outcome of each turn, ('idle',), ('passed',), ('stalled', n, cause) or ('refused', n).
+# stalls: each thread's last stall that is handed on, None or (n, cause).
+NO_STALLS = (None,) * THREADS
+Run = namedtuple('Run', 'answer turns cursor trace stalls', defaults=(NO_STALLS,))
 
 
 def call_refusal(machine, streams, cursor, budget):
@@ -58,18 +60,27 @@ def turn(machine, streams, cursor):
     return outcome, Cursor(tuple(positions), (thread + 1) % THREADS)
 
 
+def last_stall(before, outcome):
+    """A thread's last stall after its turn: a stall sets it, a pass clears it, an idle or refused turn leaves it."""
+    if outcome[0] == 'stalled':
+        return outcome[1:]
+    return None if outcome[0] == 'passed' else before
+
+
 def run(machine, streams, cursor, budget):
     """Runs the streams on the machine. A refused call writes nothing; a refused word keeps the earlier turns."""
     number = call_refusal(machine, streams, cursor, budget)
     if number is not None:
         return Run(('rejected', number), 0, cursor, [])
-    trace = []
+    trace, stalls = [], list(NO_STALLS)
     while True:
         end = end_before_turn(streams, cursor, budget, trace)
         if end is None:
+            thread = cursor.next
             outcome, cursor = turn(machine, streams, cursor)
             trace.append(outcome)
+            stalls[thread] = last_stall(stalls[thread], outcome)
             if outcome[0] == 'refused':
                 end = outcome
         if end is not None:
-            return Run(end, len(trace), cursor, trace)
+            return Run(end, len(trace), cursor, trace, tuple(stalls))

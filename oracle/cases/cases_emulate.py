@@ -41,6 +41,27 @@ RUNS = {
     'refused_while_waiting': ([[asm.stallwait(511, 1 << 7), asm.zeroacc(0, 1024)], [], []], 100),
 }
 
+# Streams that get stuck: what holds them is in the last lines.
+WAITING = {
+    'deadlock': [[asm.atgetm(0), NOP, asm.atgetm(1)], [asm.atgetm(1), NOP, asm.atgetm(0)], []],
+    'zero': [[0xA6100091, 0x60000000], [], []],
+    'full_at_zero': [[0xA6100092, 0x60000000], [], []],
+    'either_at_zero': [[0xA6100093, 0x60000000], [], []],
+    'lowest_semaphore': [[0xA3220010, 0xA6100093, 0x60000000], [], []],
+    'lowest_condition': [[0xA22001A0, 0x16000000], [], []],
+    'unpack_bank': [[0x57000001, 0x57000001, 0xA2200120, 0x16000000], [], []],
+    'bank_1': [[], [0x57000002, 0x36800000, 0x16000000], []],
+    'each_by_its_own': [[asm.atgetm(0), asm.seminit(128, 15, 15), asm.semwait(2, 128, 2), asm.atrelm(0)], [NOP, asm.atgetm(0)],
+                        [asm.trnspsrcb()]],
+}
+RUNS |= {f'stuck_{name}': (streams, 100) for name, streams in WAITING.items()}
+RUNS |= {f'budget_{name}': (streams, 3) for name, streams in WAITING.items()}
+RUNS |= {
+    'budget_p': (RUNS['p'][0], 3),
+    'budget_after_a_stall': (WAITING['deadlock'], 7),
+    'refused_beside_stalls': ([[asm.trnspsrcb()], [asm.trnspsrcb()], [0xFF000000]], 100),
+}
+
 
 def swapped(data, at, *values):
     """The data with some bytes replaced."""

@@ -175,6 +175,36 @@ def full_streams():
             yield Case(QUIET[thread], tail, fill_at=6 * (thread + 1), fill=4 * count)
 
 
+# Places in the image, after the first head and ThreadConfig; waits stand between semaphores and owners, pointers after owners.
+MUTEXES = 6 + 384
+SEMAPHORES = MUTEXES + 8
+OWNERS = SEMAPHORES + 16 + 15
+
+
+def waiting(draws, seeds, streams, place=NONE, byte=0):
+    return Case(pick(draws, seeds), tail_of(streams, MOST, (0, 0, 0), draws.draw() % 3), place, byte)
+
+
+def waiting_runs(draws):
+    """Runs in which threads wait from the start on: for a mutex, a semaphore or banks that one byte sets, or as they came."""
+    for mutex in range(8):
+        for holder in (1, 2, 3):
+            yield waiting(draws, QUIET, [[asm.atgetm(mutex)]] * 3, MUTEXES + mutex, holder)
+    for place in range(SEMAPHORES, SEMAPHORES + 16):
+        seed, mask = pick(draws, QUIET), 1 << (place - SEMAPHORES) // 2
+        for byte in (0, seed_image(seed)[place ^ 1]):  # zero, or value and maximum equal
+            streams = [[asm.semwait(B5, mask | draws.draw() % 256 & -mask, condition), asm.dmanop()] for condition in (1, 2, 3)]
+            yield waiting(draws, [seed], streams, place, byte)
+    for place in range(OWNERS, OWNERS + 8):
+        for byte in (0, 1):
+            streams = [[asm.stallwait(B5, 0x1E0), asm.dmanop()], [asm.stallwait(B7, pick(draws, (0x40, 0x100))), asm.setc16(1, 1)],
+                       [asm.trnspsrcb()]]
+            yield waiting(draws, QUIET, streams, place, byte)
+    blocked = [asm.dmanop(), asm.setc16(1, 1), asm.setdvalid(), asm.sempost(0)]
+    for seed in ANY:
+        yield waiting(draws, [seed], [blocked[turn:] + blocked[:turn] for turn in range(3)])
+
+
 # Bad inputs.
 
 PLAIN = tail_of([[NOP, asm.setdmareg(4, 0x1234)], [asm.sempost(255)], [asm.atgetm(7)]], 100, (1, 0, 0), 2)
@@ -240,7 +270,7 @@ def cases():
     draws = seeded.Draws(57)
     scenes = (kernels(draws, 800), runs(draws, QUIET, 700, lambda d: mixed(d, 0)), runs(draws, ANY, 350, lambda d: mixed(d, 0)),
               runs(draws, QUIET, 100, lambda d: mixed(d, 40)), rejected(draws, 150), full_streams(),
-              cut_inputs(draws), set_bytes(draws, 300), set_records(), other_records())
+              cut_inputs(draws), set_bytes(draws, 300), set_records(), other_records(), waiting_runs(draws))
     return [case for scene in scenes for case in scene]
 
 

@@ -1,17 +1,18 @@
 """Cases of `test_run`: whole runs on machines of a seed, and calls that must be refused.
 
-    cd oracle && python3 -m cases.cases_run    prints how the runs end, how long they are and how often threads wait for each other
+    cd oracle && python3 -m cases.cases_run    prints how the runs end, how long they are and how often threads wait, for what
 
 A case has a machine of its own: a seed's, with one number of it set, or one part of it lent at another length.
 """
 
 import struct
 from collections import Counter, namedtuple
+from itertools import product
 
 import assemble as asm
 import lent_machines
 import seeded
-from lent_machines import LIMITS, PAST, RIGHT_LENGTHS, UNSET, WRONG_LENGTHS, Made
+from lent_machines import LIMITS, PAST, RIGHT_LENGTHS, UNSET, WRONG_LENGTHS, Made, any_number
 from likely import MAKERS, likely_word
 from run import START, Cursor, run
 
@@ -193,6 +194,77 @@ def edges(draws):
                     yield Case(seed, streams, budget, Cursor((0, 0, 0), next_thread))
 
 
+# Runs in which a thread stalls by one cause, passes, and stalls by another (document 02, K3).
+
+# setup: a helper's words that make a waiter stall; waits: the waiter's, the last of which stalls; lifts: the helper's that let it
+# pass, at times by way of another cause; after: the waiter's once it has passed.
+Hurdle = namedtuple('Hurdle', 'setup waits lifts after', defaults=((),))
+RESET, SET_A, SET_B = asm.cleardvalid(reset=1), asm.setdvalid(a=1), asm.setdvalid(b=1)
+CLEAR_A, CLEAR_B = asm.cleardvalid(a=1), asm.cleardvalid(b=1)
+
+
+def stall_hurdle(conditions, setup, *lifts):
+    return Hurdle((RESET, *setup), (asm.stallwait(B5, conditions << 5), asm.dmanop()), lifts)
+
+
+def semaphore_hurdle(number, condition, value, lift):
+    """Of a semaphore and the last one, which have the same value and 3 as their maximum."""
+    mask = 1 << number | 1 << 7
+    waits = asm.semwait(B7, mask, condition), asm.setc16(1, 1)
+    return Hurdle((asm.seminit(mask, value, 3),), waits, (lift(1 << number), lift(mask)))
+
+
+HURDLES = (
+    stall_hurdle(0b1111, (SET_A, SET_A), CLEAR_A, SET_B),  # 5, then 8
+    stall_hurdle(0b0111, (SET_B, SET_B), CLEAR_B, SET_A),  # 6, then 7
+    stall_hurdle(0b1111, (), SET_A, SET_B),  # 7, then 8
+    stall_hurdle(0b1011, (), SET_B),  # 8
+    *(semaphore_hurdle(number, 1 | number & 2, 0, asm.sempost) for number in range(8)),
+    *(semaphore_hurdle(number, 2 | number & 1, 3, asm.semget) for number in range(8)),
+    Hurdle((asm.atgetm(0),), (asm.atgetm(0),), (asm.atrelm(0),), (asm.atrelm(0),)),
+    Hurdle((RESET,), (asm.trnspsrcb(),), (SET_B,)),
+    Hurdle((RESET, SET_B, CLEAR_B), (asm.movb2a(3, 5),), (SET_B,)),
+)
+
+
+def hurdle_streams(waiter, helper, hurdles, end):
+    """The hurdles one after the other; the last is lifted only if the run shall finish. All threads first release mutex 0."""
+    words = [[asm.atrelm(0)] for _ in range(3)]
+    for hurdle in hurdles:
+        words[waiter] += (*[NOP] * len(hurdle.setup), *hurdle.waits)
+        words[helper] += (*hurdle.setup, *[NOP] * (len(hurdle.waits) + 2))
+        if end == 'finished' or hurdle is not hurdles[-1]:
+            words[waiter] += hurdle.after
+            words[helper] += hurdle.lifts
+    if end == 'refused':
+        words[helper].append(REFUSED_2)
+    return words
+
+
+ENDS = ('finished', 'stuck', 'budget', 'refused')
+
+
+def hurdle_run(draws, waiter, place, end):
+    """A thread at a hurdle after another one, up to an end, from the middle of the streams."""
+    hurdles = HURDLES[place - 1 - draws.draw() % (len(HURDLES) - 1)], HURDLES[place]
+    words = hurdle_streams(waiter, (waiter + 1 + draws.draw() % 2) % 3, hurdles, end)
+    positions = tuple(draws.draw() % 3 for _ in range(3))
+    streams = [plain(*[REFUSED_2] * position, *own) for position, own in zip(positions, words)]
+    case = Case(pick(draws, QUIET), streams, MOST, Cursor(positions, draws.draw() % 3))
+    return case._replace(budget=played(case)[0].turns - 1 - draws.draw() % 2) if end == 'budget' else case
+
+
+def hurdle_runs(draws):
+    """Each thread at each hurdle, up to each end."""
+    for waiter, place, end in product(range(3), range(len(HURDLES)), ENDS):
+        yield hurdle_run(draws, waiter, place, end)
+
+
+def any_hurdles(draws, count):
+    for _ in range(count):
+        yield hurdle_run(draws, draws.draw() % 3, draws.draw() % len(HURDLES), pick(draws, ENDS))
+
+
 # Calls that are refused, and such that are just not.
 
 def faults(draws):
@@ -251,10 +323,25 @@ def full_streams():
     yield Case(QUIET[5], [Stream((NOP,), 0, FULL), EMPTY, plain(asm.atgetm(0))], MOST, Cursor((FULL - 5, 0, 0), 0))
 
 
+def any_cases(draws, count):
+    """Runs of every sort, half of them on machines of any seed; some with a number set, some with a call that may be refused."""
+    sorts = (kernels(draws, count), kernels_cut(draws, count), short_runs(draws, count, 0), short_runs(draws, count, 30),
+             any_hurdles(draws, count))
+    for _ in range(count):
+        case = next(pick(draws, sorts))
+        if draws.draw() % 2:
+            case = case._replace(seed=draws.word())
+        if draws.draw() % 8 == 0:
+            case = case._replace(number=any_number(draws))
+        if draws.draw() % 8 == 0:
+            case = case._replace(**pick(draws, [change for ways in faults(draws).values() for change in ways]))
+        yield case
+
+
 def cases():
     draws = seeded.Draws(36)
     scenes = (kernels(draws, 700), kernels_cut(draws, 250), short_runs(draws, 500, 0), short_runs(draws, 100, 30),
-              edges(draws), refused_calls(draws), single_faults(), full_streams())
+              edges(draws), refused_calls(draws), single_faults(), full_streams(), hurdle_runs(draws))
     return [case for scene in scenes for case in scene]
 
 
@@ -269,19 +356,24 @@ def packed(case):
 def line(result, digest):
     end = ' '.join(str(part) for part in result.answer)
     at = ' '.join(str(position) for position in result.cursor.positions)
-    return f'{end} turns {result.turns} at {at} next {result.cursor.next} machine {digest}\n'
+    stalls = ' '.join('-' if stall is None else '{}:{}'.format(*stall) for stall in result.stalls)
+    return f'{end} turns {result.turns} at {at} next {result.cursor.next} stalls {stalls} machine {digest}\n'
+
+
+def input_and_output(made):
+    """What the program reads of cases, and what it must write."""
+    made = list(made)
+    return b''.join(map(packed, made)), ''.join(line(*played(case)) for case in made).encode()
 
 
 def files():
-    all_cases = cases()
-    return {
-        f'{FOLDER}/stdin': b''.join(packed(case) for case in all_cases),
-        f'{FOLDER}/stdout': ''.join(line(*played(case)) for case in all_cases).encode(),
-    }
+    stdin, stdout = input_and_output(cases())
+    return {f'{FOLDER}/stdin': stdin, f'{FOLDER}/stdout': stdout}
 
 
 def tally():
-    """How the runs end, how many have over 100 turns, and how often a stalled thread's next word passed."""
+    """How the runs end and with which last stalls, how many have over 100 turns, how often words stall by each cause, and how
+    often a stalled thread's next word passed."""
     counts = Counter()
     for case in cases():
         result = played(case)[0]
@@ -289,6 +381,8 @@ def tally():
         if result.turns > 100:
             counts['over 100 turns'] += 1
         counts['turns'] += result.turns
+        counts.update(f'end {result.answer[0]} after {number}:{cause}' for number, cause in filter(None, result.stalls))
+        counts.update(f'stalled {outcome[1]}:{outcome[2]}' for outcome in result.trace if outcome[0] == 'stalled')
         for first, later in zip(result.trace, result.trace[3:]):
             if first[0] == 'stalled':
                 counts[f'stalled {first[1]} then {later[0]}'] += 1

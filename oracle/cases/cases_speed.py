@@ -30,17 +30,19 @@ def of_seed(seed):
 
 
 def run_case(times, seed, budget, streams):
-    """Only the stores are the seed's. Each run starts the streams anew, on the machine that the last one left."""
-    machine, new, turns, end = of_seed(seed), fresh(), 0, 0
+    """Only the stores are the seed's. Each run starts the streams anew, on the machine that the last one left. The line has the
+    numbers and causes of the last stalls that the last run hands on, added up."""
+    machine, new, turns, end, stalls = of_seed(seed), fresh(), 0, 0, 0
     for part in CONTROL:
         setattr(machine, part, getattr(new, part))
     for _ in range(times):
         ran = run(machine, streams, START, budget)
         turns += ran.turns
+        stalls = sum(sum(stall) for stall in ran.stalls if stall)
         end = ENDS.get(ran.answer)
         if end is None:
             end = {'refused': 100, 'rejected': 200}[ran.answer[0]] + ran.answer[1]
-    return packed(1, times, seed, budget, streams), f'run {end} {turns} {seeded.digest(machine)}'
+    return packed(1, times, seed, budget, streams), f'run {end} {turns} {stalls} {seeded.digest(machine)}'
 
 
 def save_case(times, seed, room):

@@ -11,6 +11,7 @@ from collections import Counter
 import assemble as asm
 import seeded
 from bits import bits
+from cases import stall_scenes
 from decode import TABLE
 from lent_machines import AT_END, PAST, RIGHT_LENGTHS, UNSET, WRONG_LENGTHS, Made, any_made, digest, lent, machine_of, packed
 from machine import well_formed
@@ -297,7 +298,7 @@ def spoiled():
         yield Made(77, *PAST[turn * 5 % len(PAST)], *length)
 
 
-# Scenes, and how often each is in the plan; of ZEROACC each once.
+# Scenes, and how often each is in the plan; those of ZEROACC and of stalls each once.
 SCENES = {likely: 16, noise: 4, waits: 28, semaphores: 3, mutexes: 3, banks: 6}
 ZEROACC = [zeroacc(flags, wide, half) for flags in range(4) for wide in (0, 1) for half in (0, 1)]
 PLAYED = 150  # edge words of a group
@@ -307,7 +308,7 @@ def plan(draws):
     """Machines and what their groups play."""
     edges = shuffled(edge_words(draws) + edge_words(draws) + edge_words(draws), draws)
     scenes = [play(edges[at:at + PLAYED]) for at in range(0, len(edges), PLAYED)]
-    scenes += [scene for scene, times in SCENES.items() for _ in range(times)] + ZEROACC
+    scenes += [scene for scene, times in SCENES.items() for _ in range(times)] + ZEROACC + stall_scenes.SCENES
     return [(Made(1000 + at), scene) for at, scene in enumerate(scenes)] + [(made, checked) for made in spoiled()]
 
 
@@ -326,8 +327,11 @@ def some_edges(group, draws):
     play(shuffled(edge_words(draws), draws)[:PLAYED])(group, draws)
 
 
-def some_zeroacc(group, draws):
-    ZEROACC[draws.draw() % len(ZEROACC)](group, draws)
+def one_of(scenes):
+    """Any one of some scenes."""
+    def on(group, draws):
+        scenes[draws.draw() % len(scenes)](group, draws)
+    return on
 
 
 def any_words(group, draws):
@@ -339,7 +343,7 @@ def any_words(group, draws):
 
 def any_group(draws):
     """Any machine, and any scene on it; few words where all may be refused for the machine."""
-    group, scenes = Group(any_made(draws)), (*SCENES, some_edges, some_zeroacc, any_words)
+    group, scenes = Group(any_made(draws)), (*SCENES, some_edges, one_of(ZEROACC), one_of(stall_scenes.SCENES), any_words)
     scene = scenes[draws.draw() % len(scenes)] if group.plain else any_words
     scene(group, draws)
     return group.check()

@@ -153,7 +153,7 @@ class BlockBits(unittest.TestCase):
                 machine.owners = [0, 0, 1, 0]  # SrcB's matrix bank is Matrix's, SrcA's isn't, so C7 holds
                 machine.waits[2] = ('stall', 1 << place, 1 << 7)
                 answer = offer(machine, 2, opcode << 24)
-                self.assertEqual(answer, ('stalled', 101) if place == block else ('passed',), (hex(opcode), place))
+                self.assertEqual(answer, ('stalled', 101, 7) if place == block else ('passed',), (hex(opcode), place))
 
     def test_a_wait_that_names_all_bits_lets_nop_pass(self):
         machine = fresh()

@@ -51,7 +51,7 @@ class Transpose(unittest.TestCase):
                 self.assertEqual(answer, ('passed',))
                 offer(machine, 0, asm.trnspsrcb())  # undoes it
             else:
-                self.assertEqual(answer, ('stalled', 103))
+                self.assertEqual(answer, ('stalled', 103, pointers[1]))
             self.assertEqual(machine, start)
 
 
@@ -90,7 +90,7 @@ class Move(unittest.TestCase):
                 self.assertEqual(machine.src_a[pointers[0]][5], start.src_b[pointers[1]][6])
                 machine.src_a[pointers[0]][5] = start.src_a[pointers[0]][5][:]
             else:
-                self.assertEqual(answer, ('stalled', 103))
+                self.assertEqual(answer, ('stalled', 103, pointers[1]))
             self.assertEqual(machine, start)
 
     def test_rows_are_copied_not_shared(self):

@@ -94,4 +94,4 @@ class CaseP(unittest.TestCase):
              '04 00 00 00 23 00 64 00 00 00')
 
     def test_case_p(self):
-        self.assertEqual(emulate(bytes.fromhex(self.INPUT)), b'end stuck\nturns 4\nt0 1/1\nt1 0/1\nt2 0/0\n')
+        self.assertEqual(emulate(bytes.fromhex(self.INPUT)), b'end stuck\nturns 4\nt0 1/1\nt1 0/1 waits 103 0\nt2 0/0\n')

@@ -15,6 +15,7 @@ from tests.testing import busy, still
 
 NOP, STALL, BAD = asm.nop(), asm.trnspsrcb(), 0xFF000000
 PLAIN = asm.emulate_input([[NOP], [NOP], [NOP]], 100)  # records at 0, 10, 20 and 30; 40 bytes
+EXAMPLES = Path(__file__).resolve().parent.parent.parent / 'examples'
 
 
 class Emulate(unittest.TestCase):
@@ -24,7 +25,7 @@ class Emulate(unittest.TestCase):
     def test_lines(self):
         self.prints([[NOP] * 2, [NOP], []], 9, 'end finished', 'turns 4', 't0 2/2', 't1 1/1', 't2 0/0')
         self.prints([[NOP] * 2, [NOP], []], 2, 'end budget', 'turns 2', 't0 1/2', 't1 1/1', 't2 0/0')
-        self.prints([[STALL], [NOP], [NOP]], 9, 'end stuck', 'turns 6', 't0 0/1', 't1 1/1', 't2 1/1')
+        self.prints([[STALL], [NOP], [NOP]], 9, 'end stuck', 'turns 6', 't0 0/1 waits 103 0', 't1 1/1', 't2 1/1')
         self.prints([[NOP], [NOP], [BAD]], 9, 'end refused 2', 'turns 3', 't0 1/1', 't1 1/1', 't2 0/1')
         self.prints([[asm.atgetm(8)], [], []], 9, 'end refused 3', 'turns 1', 't0 0/1', 't1 0/0', 't2 0/0')
         self.prints([[], [], []], 0, 'end finished', 'turns 0', 't0 0/0', 't1 0/0', 't2 0/0')
@@ -35,6 +36,29 @@ class Emulate(unittest.TestCase):
         # SrcB's bank is Unpackers', the mutex free, semaphores zero.
         self.prints([[asm.stallwait(511, 1 << 5 | 1 << 6), asm.dmanop()], [asm.atgetm(0)], []], 9,
                     'end finished', 'turns 4', 't0 2/2', 't1 1/1', 't2 0/0')
+
+    def test_what_stuck_threads_wait_for(self):
+        """Document 02, K3: each line by hand."""
+        end, none = ('end stuck',), ('t1 0/0', 't2 0/0')
+        self.prints([[0x45123408], [0x16000000], []], 100, *end, 'turns 4', 't0 1/1', 't1 0/1 waits 103 0', 't2 0/0')
+        self.prints([[0xA6100091, 0x60000000], [], []], 100, *end, 'turns 4', 't0 1/2 waits 101 18', *none)
+        self.prints([[0xA6100092, 0x60000000], [], []], 100, *end, 'turns 4', 't0 1/2 waits 101 26', *none)
+        self.prints([[0xA3220010, 0xA6100093, 0x60000000], [], []], 100, *end, 'turns 7', 't0 2/3 waits 101 26', *none)
+        self.prints([[0xA22001A0, 0x16000000], [], []], 100, *end, 'turns 4', 't0 1/2 waits 101 7', *none)
+        self.prints([[0x57000001, 0x57000001, 0xA2200120, 0x16000000], [], []], 100,
+                    *end, 'turns 10', 't0 3/4 waits 101 5', *none)
+        self.prints([[], [0x57000002, 0x36800000, 0x16000000], []], 100,
+                    *end, 'turns 8', 't0 0/0', 't1 2/3 waits 103 1', 't2 0/0')
+        self.assertEqual(emulate((EXAMPLES / 'deadlock.bin').read_bytes()),
+                         b'end stuck\nturns 8\nt0 2/3 waits 102 1\nt1 2/3 waits 102 0\nt2 0/0\n')
+
+    def test_only_stuck_threads_are_told_of(self):
+        self.prints([[0x45123408], [0x16000000], []], 3, 'end budget', 'turns 3', 't0 1/1', 't1 0/1', 't2 0/0')
+        self.prints([[0xA6100091, 0x60000000], [], []], 3, 'end budget', 'turns 3', 't0 1/2', 't1 0/0', 't2 0/0')
+        self.prints([[0x57000001, 0x57000001, 0xA2200120, 0x16000000], [], []], 3,
+                    'end budget', 'turns 3', 't0 1/4', 't1 0/0', 't2 0/0')
+        self.prints([[STALL], [STALL], []], 2, 'end budget', 'turns 2', 't0 0/1', 't1 0/1', 't2 0/0')
+        self.prints([[STALL], [STALL], [BAD]], 9, 'end refused 2', 'turns 3', 't0 0/1', 't1 0/1', 't2 0/1')
 
     def bad(self, data, offset):
         self.assertEqual(emulate(data), f'bad record at {offset}\n'.encode())
@@ -85,6 +109,17 @@ class Emulate(unittest.TestCase):
 
 
 class Resume(unittest.TestCase):
+    def test_what_stuck_threads_wait_for(self):
+        machine = fresh()
+        machine.mutexes[5], machine.semaphores[7], machine.owners[2:], machine.pointers[1] = 3, [9, 9], [1, 0], 1
+        machine.waits[1] = ('semaphore', 1 << 7, 128, 3)
+        streams = [[NOP, asm.atgetm(5)], [asm.setc16(1, 1)], [STALL, NOP]]
+        for budget, lines in (
+                (100, b'end stuck\nturns 3\nt0 1/2 waits 102 2\nt1 0/1 waits 101 31\nt2 0/2 waits 103 1\nnext 2\n'),
+                (2, b'end budget\nturns 2\nt0 1/2\nt1 0/1\nt2 0/2\nnext 1\n')):
+            data = asm.resume_input(image_of(machine), streams, budget, (1, 0, 0), 2)
+            self.assertEqual(resume(data), lines + image_of(machine))
+
     def test_same_as_a_run(self):
         streams = [[asm.setdmareg(3, 0xC000), asm.atgetm(2)], [asm.sempost(255), asm.wrcfg(3, 200, 1)], [BAD, NOP]]
         for cursor, budget in ((Cursor((0, 0, 1), 0), 50), (Cursor((1, 0, 2), 1), 2), (Cursor((0, 0, 0), 2), 9),

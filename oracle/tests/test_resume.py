@@ -69,6 +69,14 @@ class Cases(unittest.TestCase):
             self.assertGreaterEqual(sum(line.startswith(start) for line in first), least, start)
 
 
+    def test_stuck_runs_wait_for_everything(self):
+        told = [answer(case).decode() for case in cases_resume.waiting_runs(seeded.Draws(9))]
+        self.assertGreater(sum(text.startswith('end stuck') for text in told), 60)
+        tails = {line.split(' waits ')[1] for text in told for line in text.splitlines() if ' waits ' in line}
+        self.assertEqual({tail.split()[0] for tail in tails}, {'101', '102', '103'})
+        self.assertGreater(len(tails), 18)
+
+
 class CommandLine(unittest.TestCase):
     def test_resume_by_itself(self):
         for data in (asm.resume_input(image_of(seeded.machine(3)), [[asm.nop()], [], []], 5), b'', PLAIN):

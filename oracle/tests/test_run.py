@@ -4,8 +4,9 @@ import unittest
 
 import assemble as asm
 import seeded
+from likely import likely_word
 from machine import fresh
-from run import START, Cursor, Run, call_refusal, end_before_turn, run, turn
+from run import START, Cursor, Run, call_refusal, end_before_turn, last_stall, run, turn
 from tests.testing import busy, still
 from words import offer
 
@@ -13,6 +14,7 @@ NOP = asm.nop()
 STALL = asm.trnspsrcb()  # stalls by 103 on a fresh machine
 BAD = 0xFF000000
 PASSED, IDLE = ('passed',), ('idle',)
+STALLED = ('stalled', 103, 0)  # what STALL answers there
 
 
 class Ends(unittest.TestCase):
@@ -33,19 +35,19 @@ class Ends(unittest.TestCase):
 
     def test_stuck_after_three_turns_without_a_passed_word(self):
         result = self.ran([[STALL], [STALL], [STALL]])
-        self.assertEqual(result, Run(('stuck',), 3, START, [('stalled', 103)] * 3))
+        self.assertEqual(result, Run(('stuck',), 3, START, [STALLED] * 3, (STALLED[1:],) * 3))
         result = self.ran([[STALL], [], []])
-        self.assertEqual(result, Run(('stuck',), 3, START, [('stalled', 103), IDLE, IDLE]))
+        self.assertEqual(result, Run(('stuck',), 3, START, [STALLED, IDLE, IDLE], (STALLED[1:], None, None)))
 
     def test_idle_turns_count_towards_stuck(self):
         result = self.ran([[NOP], [STALL], []])
-        self.assertEqual(result.trace, [PASSED, ('stalled', 103), IDLE, IDLE])
+        self.assertEqual(result.trace, [PASSED, STALLED, IDLE, IDLE])
         self.assertEqual((result.answer, result.turns, result.cursor), (('stuck',), 4, Cursor((1, 0, 0), 1)))
 
     def test_a_passed_word_starts_the_count_afresh(self):
         # Two turns without a passed word, then a passed one, over and over.
         result = self.ran([[], [], [NOP] * 5 + [STALL]])
-        self.assertEqual(result.trace, [IDLE, IDLE, PASSED] * 5 + [IDLE, IDLE, ('stalled', 103)])
+        self.assertEqual(result.trace, [IDLE, IDLE, PASSED] * 5 + [IDLE, IDLE, STALLED])
         self.assertEqual((result.answer, result.turns), (('stuck',), 18))
 
     def test_budget(self):
@@ -110,7 +112,7 @@ class Ends(unittest.TestCase):
         # Thread 1 finds the mutex taken by thread 0 in its first turn and free in its second.
         streams = [[asm.atgetm(0), asm.atrelm(0)], [asm.atgetm(0)], [NOP]]
         result = self.ran(streams)
-        self.assertEqual(result.trace, [PASSED, ('stalled', 102), PASSED, PASSED, PASSED])
+        self.assertEqual(result.trace, [PASSED, ('stalled', 102, 0), PASSED, PASSED, PASSED])
         self.assertEqual(result.answer, ('finished',))
 
     def test_waits_across_turns(self):
@@ -118,12 +120,66 @@ class Ends(unittest.TestCase):
         streams = [[asm.stallwait(1 << 6, 1 << 8), STALL], [NOP, asm.setdvalid(b=1)], []]
         machine = fresh()
         result = self.ran(streams, machine=machine)
-        self.assertEqual(result.trace, [PASSED, PASSED, IDLE, ('stalled', 101), PASSED, IDLE, PASSED])
+        self.assertEqual(result.trace, [PASSED, PASSED, IDLE, ('stalled', 101, 8), PASSED, IDLE, PASSED])
         self.assertEqual(machine.waits, [None, None, None])
 
     def test_longest_budget_and_streams(self):
         result = self.ran([[NOP] * 65536, [], []], Cursor((65530, 0, 0), 0), 1000000)
         self.assertEqual((result.answer, result.turns, result.cursor), (('finished',), 16, Cursor((65536, 0, 0), 1)))
+
+
+class LastStalls(unittest.TestCase):
+    """None at a run's start; a stall sets it, a pass clears it, idle and refused turns leave it (document 02, K3)."""
+
+    def stalls(self, streams, budget=100, cursor=START):
+        result = run(fresh(), streams, cursor, budget)
+        return result.answer[0], result.stalls
+
+    def test_over_a_run(self):
+        # Thread 0 waits for mutex 0, then for SrcB's bank 0, then by a wait until semaphore 2 is neither full nor zero; thread 1
+        # lets it, and is refused at the end.
+        streams = [[asm.atgetm(0), STALL, asm.seminit(4, 1, 1), asm.semwait(1 << 5, 4, 3), asm.dmanop()],
+                   [asm.atgetm(0), NOP, asm.atrelm(0), NOP, NOP, asm.setdvalid(b=1), NOP, NOP, NOP, NOP, asm.semget(4), NOP,
+                    asm.seminit(4, 1, 2), NOP, BAD], []]
+        after = [self.stalls(streams, budget, Cursor((0, 0, 0), 1))[1] for budget in range(45)]
+        self.assertEqual({stalls[1:] for stalls in after}, {(None, None)})
+        changes = [(turns, stalls[0]) for turns, stalls in enumerate(after) if turns and stalls != after[turns - 1]]
+        self.assertEqual(changes, [(3, (102, 1)), (9, None), (12, (103, 0)), (18, None),
+                                   (27, (101, 26)), (33, (101, 18)), (39, None)])
+
+    def test_at_each_end(self):
+        waits, held = (103, 0), (102, 0)
+        self.assertEqual(self.stalls([[NOP], [STALL], [NOP, asm.setdvalid(b=1)]]), ('finished', (None, None, None)))
+        self.assertEqual(self.stalls([[asm.atgetm(1)], [asm.atgetm(1)], [STALL]]), ('stuck', (None, held, waits)))
+        self.assertEqual(self.stalls([[NOP] * 9, [STALL], []], 5), ('budget', (None, waits, None)))
+        self.assertEqual(self.stalls([[STALL], [STALL], [BAD]]), ('refused', (waits, waits, None)))
+        self.assertEqual(self.stalls([[STALL], [STALL], [STALL]], 1000001), ('rejected', (None, None, None)))
+
+    def test_a_run_starts_without(self):
+        streams = [[STALL], [STALL], []]
+        self.assertEqual(self.stalls(streams, 0), ('budget', (None, None, None)))
+        self.assertEqual(self.stalls(streams, 1), ('budget', ((103, 0), None, None)))
+        # A run that goes on where that one ended knows nothing of its stalls.
+        self.assertEqual(self.stalls(streams, 1, Cursor((0, 0, 0), 1)), ('budget', (None, (103, 0), None)))
+        self.assertEqual(self.stalls(streams, 9, Cursor((1, 0, 0), 0)), ('stuck', (None, (103, 0), None)))
+
+    def test_after_one_turn(self):
+        for before in (None, (101, 5), (102, 0)):
+            for outcome, after in ((PASSED, None), (IDLE, before), (('refused', 2), before), (('stalled', 101, 24), (101, 24))):
+                self.assertEqual(last_stall(before, outcome), after)
+
+    def test_a_thread_of_a_stuck_run_has_one_if_it_has_words(self):
+        draws, stuck = seeded.Draws(53), 0
+        for _ in range(150):
+            streams = [[likely_word(draws) for _ in range(draws.draw() % 8)] for _ in range(3)]
+            machine = fresh()
+            result = run(machine, streams, START, 1000)
+            if result.answer == ('stuck',):
+                stuck += 1
+                for thread, (position, stream) in enumerate(zip(result.cursor.positions, streams)):
+                    expected = offer(machine, thread, stream[position])[1:] if position < len(stream) else None
+                    self.assertEqual(result.stalls[thread], expected)
+        self.assertGreater(stuck, 40)
 
 
 class Calls(unittest.TestCase):
@@ -219,6 +275,6 @@ class Turns(unittest.TestCase):
             outcome, cursor = turn(fresh(), [[BAD]] * 3, Cursor((0, 0, 0), following))
             self.assertEqual((outcome, cursor), (('refused', 2), Cursor((0, 0, 0), following)))
             outcome, cursor = turn(fresh(), [[STALL]] * 3, Cursor((0, 0, 0), following))
-            self.assertEqual((outcome, cursor), (('stalled', 103), Cursor((0, 0, 0), after)))
+            self.assertEqual((outcome, cursor), (STALLED, Cursor((0, 0, 0), after)))
             outcome, cursor = turn(fresh(), [[]] * 3, Cursor((0, 0, 0), following))
             self.assertEqual((outcome, cursor), (IDLE, Cursor((0, 0, 0), after)))

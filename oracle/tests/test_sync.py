@@ -21,7 +21,7 @@ class Mutexes(unittest.TestCase):
                         self.assertEqual(answer, ('passed',))
                         expected.mutexes[mutex] = thread + 1
                     else:
-                        self.assertEqual(answer, ('stalled', 102))
+                        self.assertEqual(answer, ('stalled', 102, state - 1))
                     self.assertEqual(machine, expected)
 
                     machine, expected = start.copy(), start.copy()
@@ -34,7 +34,7 @@ class Mutexes(unittest.TestCase):
         machine = fresh()
         self.assertEqual(step(machine, 0, asm.atgetm(3)), ('passed',))
         self.assertEqual(step(machine, 0, asm.atgetm(3)), ('passed',))
-        self.assertEqual(step(machine, 1, asm.atgetm(3)), ('stalled', 102))
+        self.assertEqual(step(machine, 1, asm.atgetm(3)), ('stalled', 102, 0))
         self.assertEqual(step(machine, 1, asm.atrelm(3)), ('passed',))
         self.assertEqual(machine.mutexes[3], 1)
         self.assertEqual(step(machine, 0, asm.atrelm(3)), ('passed',))

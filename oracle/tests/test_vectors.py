@@ -9,6 +9,7 @@ import tempfile
 import unittest
 from collections import Counter
 from contextlib import redirect_stderr, redirect_stdout
+from itertools import groupby, product
 from pathlib import Path
 from types import SimpleNamespace
 from unittest import mock
@@ -90,7 +91,7 @@ class EmulateCases(unittest.TestCase):
         self.assertEqual(files['crates/emulate/stdin'].hex(' '),
                          '04 00 00 00 20 00 08 34 12 45 04 00 00 00 21 00 00 00 00 16 '
                          '00 00 00 00 22 00 04 00 00 00 23 00 64 00 00 00')
-        self.assertEqual(files['crates/emulate/stdout'], b'end stuck\nturns 4\nt0 1/1\nt1 0/1\nt2 0/0\n')
+        self.assertEqual(files['crates/emulate/stdout'], b'end stuck\nturns 4\nt0 1/1\nt1 0/1 waits 103 0\nt2 0/0\n')
 
     def test_named_runs_end_as_they_are_called(self):
         for name, case in cases_emulate.RUNS.items():
@@ -134,6 +135,31 @@ class RunCases(unittest.TestCase):
                           if first[0] == 'stalled' and later == ('passed',))
         for cause in (101, 102, 103):
             self.assertGreaterEqual(causes[cause], 10, cause)
+
+    def test_stored_last_stalls(self):
+        """Each thread hands on every cause at each end but finished, and none there or from a call that is refused."""
+        handed = {}
+        for line in self.stored('stdout').decode().splitlines():
+            for thread, stall in enumerate(line.split(' stalls ')[1].split()[:3]):
+                handed.setdefault((line.split()[0], thread), set()).add(stall)
+        for thread in range(3):
+            self.assertEqual((handed['finished', thread], handed['rejected', thread]), ({'-'}, {'-'}))
+            causes = {'-', *(f'101:{cause}' for cause in (*range(5, 9), *range(16, 32))), '103:0', '103:1',
+                      *(f'102:{holder}' for holder in range(3) if holder != thread)}
+            for end in ('stuck', 'budget', 'refused'):
+                self.assertEqual(handed[end, thread], causes)
+
+    def test_hurdles(self):
+        """The waiter stalls at the first, passes, and stalls at the last; the run ends as it is called."""
+        places = list(product(range(3), range(len(cases_run.HURDLES)), cases_run.ENDS))
+        for (waiter, _, end), case in zip(places, cases_run.hurdle_runs(Draws(6)), strict=True):
+            result = cases_run.played(case)[0]
+            self.assertEqual(result.answer[0], end)
+            own = result.trace[(waiter - case.cursor.next) % 3::3]
+            kinds = [kind for kind, _ in groupby(own, lambda outcome: outcome[0]) if kind in ('passed', 'stalled')]
+            self.assertEqual(kinds, ['passed', 'stalled'] * 2 + ['passed'] * (end == 'finished'))
+            stalled = [thread for thread in range(3) if result.stalls[thread] is not None]
+            self.assertEqual(stalled, [] if end == 'finished' else [waiter])
 
     def test_streams_are_repeated_from_a_word_on(self):
         self.assertEqual(cases_run.unrolled(cases_run.Stream((7, 8, 9), 1, 8)), [7, 8, 9, 8, 9, 8, 9, 8])

@@ -6,7 +6,7 @@ import assemble as asm
 from machine import fresh
 from seeded import Draws
 from tests.testing import bank_states, busy, still
-from waits import holds
+from waits import held_by, holds
 from words import offer, step
 
 B1, B5, B6, B7 = 1 << 1, 1 << 5, 1 << 6, 1 << 7
@@ -62,6 +62,69 @@ class SemaphoreConditions(unittest.TestCase):
             self.assertFalse(holds(fresh(), ('semaphore', 511, 0, condition)))
 
 
+class Causes(unittest.TestCase):
+    """What a wait is held by (document 02, K3)."""
+
+    def test_the_lowest_named_condition_that_holds(self):
+        machine = fresh()
+        for owners, pointers in bank_states():
+            machine.owners, machine.pointers = owners, pointers
+            matrix_a, matrix_b, unpack_a, unpack_b = pointers
+            a, b = owners[:2], owners[2:]
+            hold = [number for number, holding in ((5, a[unpack_a] == 1), (6, b[unpack_b] == 1), (7, a[matrix_a] == 0),
+                                                   (8, b[matrix_b] == 0)) if holding]
+            for named in range(16):
+                expected = [number for number in hold if named >> (number - 5) & 1]
+                for others in (0, 0x7E1F, 0x0010, 0x0200):
+                    wait = ('stall', 0, named << 5 | others)
+                    self.assertEqual(held_by(machine, wait), expected[0] if expected else None)
+
+    def test_of_one_semaphore(self):
+        machine = fresh()
+        for number in range(8):
+            for value, maximum, causes in ((0, 0, (None, 16, 24, 16)), (0, 1, (None, 16, None, 16)),
+                                           (0, 15, (None, 16, None, 16)), (1, 1, (None, None, 24, 24)),
+                                           (15, 15, (None, None, 24, 24)), (1, 0, (None,) * 4), (3, 2, (None,) * 4),
+                                           (1, 2, (None,) * 4)):
+                machine.semaphores = [[0, 0] for _ in range(8)]
+                machine.semaphores[number] = [value, maximum]
+                for condition, cause in enumerate(causes):
+                    expected = None if cause is None else number + cause
+                    self.assertEqual(held_by(machine, ('semaphore', 0, 1 << number, condition)), expected)
+
+    def test_the_lowest_masked_semaphore_that_holds(self):
+        # Semaphores 1 and 6 are zero, 2 and 5 full, 4 both, the others neither.
+        machine = fresh()
+        machine.semaphores = [[2, 5], [0, 3], [4, 4], [5, 2], [0, 0], [15, 15], [0, 15], [1, 0]]
+        for mask, causes in ((255, (None, 17, 26, 17)), (0xFD, (None, 20, 26, 26)), (0xF9, (None, 20, 28, 20)),
+                             (0xE9, (None, 22, 29, 29)), (0xC9, (None, 22, None, 22)), (0x89, (None, None, None, None)),
+                             (0x10, (None, 20, 28, 20)), (0, (None, None, None, None))):
+            for condition, cause in enumerate(causes):
+                self.assertEqual(held_by(machine, ('semaphore', 511, mask, condition)), cause, (hex(mask), condition))
+
+    def test_no_wait(self):
+        self.assertIsNone(held_by(fresh(), None))
+
+    def test_the_answer_names_it(self):
+        machine = fresh()
+        for wait, cause in ((('stall', B5, 0x1E0), 7), (('stall', B5, C8 | C5), 8), (('semaphore', B5, 0xF0, 1), 20),
+                            (('semaphore', B5, 0x81, 2), 24), (('semaphore', B5, 0x80, 3), 23)):
+            machine.waits[1] = wait
+            self.assertEqual(step(machine, 1, asm.dmanop()), ('stalled', 101, cause))
+        for holder in (0, 2):
+            machine.mutexes[6] = holder + 1
+            self.assertEqual(step(machine, 1, asm.atgetm(6)), ('stalled', 102, holder))
+
+    def test_the_bank_is_the_matrix_pointer_s(self):
+        machine = fresh()
+        for bank in (0, 1):
+            for unpack in (0, 1):
+                machine.pointers = [1 - bank, bank, unpack, unpack]
+                machine.owners = [1, 1, bank, 1 - bank]
+                for word in (asm.trnspsrcb(), asm.movb2a(1, 2)):
+                    self.assertEqual(step(machine, 0, word), ('stalled', 103, bank))
+
+
 class Lives(unittest.TestCase):
     """What becomes of a wait. In a fresh machine C7 and C8 hold and C5 and C6 don't."""
 
@@ -81,7 +144,7 @@ class Lives(unittest.TestCase):
         return answer, machine.waits[thread]
 
     def test_a_holding_wait_stalls_and_is_kept(self):
-        self.assertEqual(self.offered(self.HOLDS, asm.dmanop()), (('stalled', 101), self.HOLDS))
+        self.assertEqual(self.offered(self.HOLDS, asm.dmanop()), (('stalled', 101, 7), self.HOLDS))
 
     def test_a_holding_wait_is_kept_by_a_passing_word_it_does_not_block(self):
         for word in (asm.nop(), asm.setc16(1, 1), asm.sempost(0)):
@@ -95,8 +158,8 @@ class Lives(unittest.TestCase):
     def test_a_lifted_wait_is_kept_by_a_stalled_word(self):
         def take(machine):
             machine.mutexes[2] = 1
-        self.assertEqual(self.offered(self.LIFTED, asm.atgetm(2), change=take), (('stalled', 102), self.LIFTED))
-        self.assertEqual(self.offered(self.LIFTED, asm.trnspsrcb()), (('stalled', 103), self.LIFTED))
+        self.assertEqual(self.offered(self.LIFTED, asm.atgetm(2), change=take), (('stalled', 102, 0), self.LIFTED))
+        self.assertEqual(self.offered(self.LIFTED, asm.trnspsrcb()), (('stalled', 103, 0), self.LIFTED))
 
     def test_a_lifted_wait_is_kept_by_a_refused_word(self):
         self.assertEqual(self.offered(self.LIFTED, asm.atgetm(8)), (('refused', 3), self.LIFTED))
@@ -113,7 +176,7 @@ class Lives(unittest.TestCase):
     def test_they_are_blocked_as_other_words(self):
         wait = ('stall', B1, C8)
         for word in (asm.stallwait(1, 1), asm.semwait(1, 1, 1), asm.seminit(1, 1, 1), asm.atgetm(0)):
-            self.assertEqual(self.offered(wait, word), (('stalled', 101), wait))
+            self.assertEqual(self.offered(wait, word), (('stalled', 101, 8), wait))
 
     def test_bits_without_a_word_block_nothing(self):
         wait = ('stall', 511 & ~(B1 | B5 | B6 | B7), C7)
@@ -122,7 +185,7 @@ class Lives(unittest.TestCase):
 
     def test_semaphore_wait_stalls(self):
         wait = ('semaphore', B7, 1, 1)
-        self.assertEqual(self.offered(wait, asm.wrcfg()), (('stalled', 101), wait))
+        self.assertEqual(self.offered(wait, asm.wrcfg()), (('stalled', 101, 16), wait))
         self.assertEqual(self.offered(wait, asm.dmanop()), (('passed',), wait))
 
         def post(machine):
@@ -150,7 +213,7 @@ class Lives(unittest.TestCase):
     def test_a_wait_stalls_only_its_own_thread(self):
         machine = fresh()
         machine.waits[0] = ('stall', 511, C7)
-        self.assertEqual(offer(machine, 0, asm.dmanop()), ('stalled', 101))
+        self.assertEqual(offer(machine, 0, asm.dmanop()), ('stalled', 101, 7))
         self.assertEqual(offer(machine, 1, asm.dmanop()), ('passed',))
         self.assertEqual(offer(machine, 2, asm.dmanop()), ('passed',))
         self.assertEqual(machine.waits, [('stall', 511, C7), None, None])
@@ -158,7 +221,7 @@ class Lives(unittest.TestCase):
     def test_another_thread_lifts_it(self):
         machine = fresh()
         offer(machine, 0, asm.stallwait(B6, C8))
-        self.assertEqual(offer(machine, 0, asm.trnspsrcb()), ('stalled', 101))
+        self.assertEqual(offer(machine, 0, asm.trnspsrcb()), ('stalled', 101, 8))
         offer(machine, 1, asm.setdvalid(b=1))
         self.assertEqual(offer(machine, 0, asm.trnspsrcb()), ('passed',))
         self.assertEqual(machine.waits[0], None)
@@ -171,16 +234,16 @@ class Order(unittest.TestCase):
         machine = fresh()
         machine.mutexes[0] = 2
         machine.waits[0] = ('stall', B1 | B6, C7)
-        self.assertEqual(step(machine, 0, asm.atgetm(0)), ('stalled', 101))
-        self.assertEqual(step(machine, 0, asm.trnspsrcb()), ('stalled', 101))
-        self.assertEqual(step(machine, 0, asm.movb2a()), ('stalled', 101))
+        self.assertEqual(step(machine, 0, asm.atgetm(0)), ('stalled', 101, 7))
+        self.assertEqual(step(machine, 0, asm.trnspsrcb()), ('stalled', 101, 7))
+        self.assertEqual(step(machine, 0, asm.movb2a()), ('stalled', 101, 7))
         machine.waits[0] = ('stall', 511, C5)
-        self.assertEqual(step(machine, 0, asm.atgetm(0)), ('stalled', 102))
-        self.assertEqual(step(machine, 0, asm.trnspsrcb()), ('stalled', 103))
-        self.assertEqual(step(machine, 0, asm.movb2a()), ('stalled', 103))
+        self.assertEqual(step(machine, 0, asm.atgetm(0)), ('stalled', 102, 1))
+        self.assertEqual(step(machine, 0, asm.trnspsrcb()), ('stalled', 103, 0))
+        self.assertEqual(step(machine, 0, asm.movb2a()), ('stalled', 103, 0))
         machine.waits[0] = ('stall', B5, C7)
-        self.assertEqual(step(machine, 0, asm.atgetm(0)), ('stalled', 102))
-        self.assertEqual(step(machine, 0, asm.trnspsrcb()), ('stalled', 103))
+        self.assertEqual(step(machine, 0, asm.atgetm(0)), ('stalled', 102, 1))
+        self.assertEqual(step(machine, 0, asm.trnspsrcb()), ('stalled', 103, 0))
 
     def test_refusals_go_before_stalls(self):
         machine = fresh()
@@ -221,7 +284,7 @@ class NothingChanges(unittest.TestCase):
     def test_on_a_stall_or_refusal(self):
         draws = Draws(42)
         opcodes = (0x02, 0x16, 0x0B, 0x10, 0x36, 0x57, 0x45, 0x58, 0x5A, 0x60, *range(0xA0, 0xA7), *range(0xB0, 0xB7))
-        seen = {}
+        seen = set()
         for seed in range(20):
             start = busy(seed)
             machine = start.copy()
@@ -230,7 +293,7 @@ class NothingChanges(unittest.TestCase):
                 # Clears signal mode, AddrMod and high bits of numbers in some, so that more words pass.
                 word &= (0xFFFFFFFF, 0xFF383F07, 0xFF380007)[draws.draw() % 3]
                 answer = offer(machine, draws.draw() % 3, word)
-                seen[answer] = seen.get(answer, 0) + 1
+                seen.add(answer[:2])
                 if answer == ('passed',):
                     machine = start.copy()
                 else:

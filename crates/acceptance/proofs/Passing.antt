@@ -1,7 +1,10 @@
 -- When a word passes, and what a call of `step` then is.
 use Prim.Native.Nat.{ℕ, _<_}
 use mathlib.Core.Path.{_≡_, refl, sym, ap, _∙_}
-use mathlib.Core.Bool.{Bool, true}
+use mathlib.Core.Bool.{true, false, _&&_}
+use Rattle.bits.specs.Field.{flag}
+use Rattle.machine.specs.declared.control.Control.{Control}
+use Rattle.machine.specs.Control.{waitOf}
 use mathlib.Core.List.{List}
 use native.Mathlib.Omega.{arith}
 use borrow.Author.Tests.{le-leb}
@@ -15,7 +18,8 @@ use Rattle.word_rules.specs.declared.instruction.ScalarWord.{ScalarWord}
 use Rattle.word_rules.specs.declared.instruction.Instruction.{Instruction}
 use Rattle.word_rules.specs.declared.instruction.Instruction.the-variants.{Scalar, Config}
 use Rattle.word_rules.specs.Table.{decodeOf}
-use Rattle.word_rules.specs.Waits.{Gate, Open, waitFirst, gateOf}
+use Rattle.word_rules.specs.Waits.{heldBy, holdsNow, waitBlock, waitGate, Gate, Open, gateOf}
+use Rattle.word_rules.proofs.Deciding.{unheld}
 use Rattle.step_rules.specs.Step.{stepped, passOf, byGate, gatedOf, checkOf, stepOf}
 use Rattle.step_rules.proofs.Ways.{offered-as, call-offered}
 use Rattle.acceptance.specs.Worked.{Unstalled}
@@ -40,12 +44,17 @@ refusing m t w n vs e h d =
     let offered = offered-as m t w (refused n vs) d in
     sym (call-offered m t Granted (fine m t e h) w (stepped (refused n vs) m) refl offered)
 
+-- a wait that doesn't stall these words leaves a gate open
+open-now : (c : Control) (t b : ℕ) → (flag b (waitBlock (waitOf c t)) && holdsNow c (waitOf c t)) ≡ false →
+    waitGate (heldBy c (waitOf c t)) (flag b (waitBlock (waitOf c t))) Open ≡ Open
+open-now c t b e = unheld (heldBy c (waitOf c t)) (flag b (waitBlock (waitOf c t))) Open e
+
 pub scalar-passes : (m : Machine) (t w : ℕ) (s : ScalarWord) → Unstalled 5 m t → decodeOf w ≡ accepted (Scalar s) → stepOf m t w ≡ passOf m t (Scalar s)
 unfolding gateOf
 scalar-passes m t w s r d =
-    passing m t w (Scalar s) (r .formed) (r .thread) d (ap (λ (b : Bool). waitFirst b Open) (r .unstalled))
+    passing m t w (Scalar s) (r .formed) (r .thread) d (open-now (m .control) t 5 (r .unstalled))
 
 pub config-passes : (m : Machine) (t w : ℕ) (s : ConfigWord) → Unstalled 7 m t → decodeOf w ≡ accepted (Config s) → stepOf m t w ≡ passOf m t (Config s)
 unfolding gateOf
 config-passes m t w s r d =
-    passing m t w (Config s) (r .formed) (r .thread) d (ap (λ (b : Bool). waitFirst b Open) (r .unstalled))
+    passing m t w (Config s) (r .formed) (r .thread) d (open-now (m .control) t 7 (r .unstalled))

@@ -1,6 +1,7 @@
 // What the customer is promised and no single function can state, in one place.
 ghost use Rattle.step_rules.specs.Kept.{KeepsFormed};
 ghost use Rattle.step_rules.specs.Unchanged.{Unchanged};
+ghost use Rattle.step_rules.specs.Causes.{CausesHold};
 ghost use Rattle.run_rules.specs.Isolation.{Isolated};
 ghost use Rattle.run_rules.specs.Chained.{Chained};
 ghost use Rattle.run_rules.specs.Observed.{Observed};
@@ -8,6 +9,7 @@ ghost use Rattle.run_rules.specs.OfferedAgain.{OfferedAgain};
 ghost use Rattle.run_rules.specs.Ended.{Ended};
 ghost use Rattle.run_rules.specs.Kept.{RunKeeps};
 ghost use Rattle.run_rules.specs.StuckForGood.{StuckForGood};
+ghost use Rattle.run_rules.specs.StuckSays.{StuckSays};
 ghost use Rattle.dest.specs.Cover.{ViewsCover};
 ghost use Rattle.image.specs.Promises.{ImageFacts, RoundTrips};
 ghost use Rattle.bench_gprs.specs.Promises.{GprPromises};
@@ -36,6 +38,9 @@ pub fn promises()
     ensures keeps { λ _. ⌜ RunKeeps ⌝ }
     // a stuck run is stuck for good
     ensures stuck { λ _. ⌜ StuckForGood ⌝ }
+    // the cause that a stall is told for is so; in a stuck run a thread's last stall is what its word waits for on the machine left
+    ensures causes { λ _. ⌜ CausesHold ⌝ }
+    ensures says { λ _. ⌜ StuckSays ⌝ }
     // each Dest view covers every storage row exactly once, in every setting of the flags
     ensures covers { λ _. ⌜ ViewsCover ⌝ }
     // images load to the state they were saved from, and each accepted image saves to its own bytes

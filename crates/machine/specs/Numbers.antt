@@ -52,8 +52,17 @@ valuesOf BadReplay = []
 
 abbrev pub stallNumberOf : StallCause → ℕ
 -- the wait
-stallNumberOf WaitHolds = 101
+stallNumberOf (WaitHolds cause) = 101
 -- the mutex
-stallNumberOf MutexHeld = 102
+stallNumberOf (MutexHeld thread) = 102
 -- SrcB's owner
-stallNumberOf BankNotMatrix = 103
+stallNumberOf (BankNotMatrix bank) = 103
+
+-- what is told with the number (document 02, K3)
+abbrev pub stallCauseOf : StallCause → ℕ
+-- what the wait is held by
+stallCauseOf (WaitHolds cause) = cause
+-- the holding thread
+stallCauseOf (MutexHeld thread) = thread
+-- the bank
+stallCauseOf (BankNotMatrix bank) = bank

@@ -1,6 +1,6 @@
 // The numbers that come back (document 01, "Numbers that come back").
 ghost use mathlib.Core.Path.{_≡_};
-ghost use Rattle.machine.specs.Numbers.{numberOf, stallNumberOf};
+ghost use Rattle.machine.specs.Numbers.{numberOf, stallNumberOf, stallCauseOf};
 
 // Why a call or a word is refused.
 pub enum Refusal {
@@ -19,11 +19,12 @@ pub enum Refusal {
     BadReplay,
 }
 
-// Why a word is stalled.
+// Why a word is stalled, with the cause that is told of it (document 02, K3): what the wait is held by, the thread that holds the
+// mutex, or the bank.
 pub enum StallCause {
-    WaitHolds,
-    MutexHeld,
-    BankNotMatrix,
+    WaitHolds(u32),
+    MutexHeld(u32),
+    BankNotMatrix(u32),
 }
 
 // What came of a turn: no word was there, or the word passed, was stalled or was refused.
@@ -60,8 +61,19 @@ pub fn stall_number(s: StallCause) -> u32
     ensures { λ n. ⌜ n ≡ stallNumberOf s ⌝ }
 {
     match s {
-        StallCause::WaitHolds => 101,
-        StallCause::MutexHeld => 102,
-        StallCause::BankNotMatrix => 103,
+        StallCause::WaitHolds(_) => 101,
+        StallCause::MutexHeld(_) => 102,
+        StallCause::BankNotMatrix(_) => 103,
+    }
+}
+
+// Its cause.
+pub fn stall_cause(s: StallCause) -> u32
+    ensures { λ n. ⌜ n ≡ stallCauseOf s ⌝ }
+{
+    match s {
+        StallCause::WaitHolds(held_by) => held_by,
+        StallCause::MutexHeld(thread) => thread,
+        StallCause::BankNotMatrix(bank) => bank,
     }
 }

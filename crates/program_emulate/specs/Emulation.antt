@@ -1,4 +1,4 @@
--- What the program `emulate` prints for each input there is (document 01, "Program and cases").
+-- What the program `emulate` prints for each input there is (document 01, "Program and cases"; document 02, K3).
 use Prim.Native.Nat.{ℕ, _+_}
 use mathlib.Core.Path.{_≡_}
 use mathlib.Core.List.{List, _++_}
@@ -21,10 +21,10 @@ startCursor = record { at0 = 0; at1 = 0; at2 = 0; next = 0 }
 
 -- a run of a fresh machine
 unfoldable pub freshRun : Streams → ℕ → Summary
-freshRun s budget = summaryOf (runOf s freshMachine startCursor budget)
+freshRun s budget = summaryOf startCursor (runOf s freshMachine startCursor budget)
 
 abbrev pub linesOf : Summary → Counts → List ℕ
-linesOf r n = runLines (r .answer) (r .turns) (r .cursor) (n .n0) (n .n1) (n .n2)
+linesOf r n = runLines (r .answer) (r .turns) (r .cursor) (r .stalls) (n .n0) (n .n1) (n .n2)
 
 abbrev pub byScript : List ℕ → ScriptRead → List ℕ
 byScript bs (Sound s) = linesOf (freshRun (streamsOf bs (s .counts)) (s .budget)) (s .counts)

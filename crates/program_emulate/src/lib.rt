@@ -5,6 +5,7 @@ ghost use lib.ListN.{length};
 ghost use Rattle.bits.specs.Overwrite.{Wrote};
 ghost use Rattle.run_order.specs.Cursor.{streams};
 ghost use Rattle.run_order.specs.Ending.{toldEnding};
+ghost use Rattle.run_order.specs.Stalls.{toldStalls};
 ghost use Rattle.program_records.specs.declared.script.ScriptRead.the-variants.{Sound};
 ghost use Rattle.program_records.specs.Counts.{streamsOf};
 ghost use Rattle.program_records.specs.Script.{scriptOf};
@@ -18,6 +19,7 @@ use program_records::words::read_streams;
 use program_report::put_run_lines;
 use run_order::cursor::Cursor;
 use run_order::ending::Ending;
+use run_order::stalls::LastStalls;
 use whole_machine::runs::run_whole;
 
 // The bytes of the longest sound input, and one more, by which a longer one is known.
@@ -28,6 +30,7 @@ struct Outline {
     answer: Ending,
     turns: u32,
     cursor: Cursor,
+    stalls: LastStalls,
 }
 
 // Runs a fresh machine.
@@ -35,6 +38,7 @@ fn run_fresh(s0: &[u32], s1: &[u32], s2: &[u32], budget: u32) -> Outline
     ensures answer { λ r. ⌜ toldEnding (r .answer) ≡ freshRun (streams (now (s0 .entry)) (now (s1 .entry)) (now (s2 .entry))) budget .answer ⌝ }
     ensures turns { λ r. ⌜ r .turns ≡ freshRun (streams (now (s0 .entry)) (now (s1 .entry)) (now (s2 .entry))) budget .turns ⌝ }
     ensures cursor { λ r. ⌜ r .cursor ≡ freshRun (streams (now (s0 .entry)) (now (s1 .entry)) (now (s2 .entry))) budget .cursor ⌝ }
+    ensures stalls { λ r. ⌜ toldStalls (r .stalls) ≡ freshRun (streams (now (s0 .entry)) (now (s1 .entry)) (now (s2 .entry))) budget .stalls ⌝ }
 {
     let start = Cursor {
         at0: 0,
@@ -45,10 +49,12 @@ fn run_fresh(s0: &[u32], s1: &[u32], s2: &[u32], budget: u32) -> Outline
     let ran = run_whole(machine::fresh::fresh(), s0, s1, s2, start, budget);
     let answer = ran.answer;
     let cursor = ran.cursor;
+    let stalls = ran.stalls;
     Outline {
         answer,
         turns: ran.turns,
         cursor,
+        stalls,
     }
 }
 
@@ -69,7 +75,8 @@ fn run_script(input: &[u8], script: Script, out: &mut [u8]) -> usize
     let told = run_fresh(&s0[..n0], &s1[..n1], &s2[..n2], script.budget);
     let answer = told.answer;
     let cursor = told.cursor;
-    put_run_lines(out, 0, answer, told.turns, cursor, n0, n1, n2)
+    let stalls = told.stalls;
+    put_run_lines(out, 0, answer, told.turns, cursor, stalls, n0, n1, n2)
 }
 
 // Everything that the program prints for an input. Internal: there is room.

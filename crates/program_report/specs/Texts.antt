@@ -30,6 +30,10 @@ rejectedText = 114 ∷ 101 ∷ 106 ∷ 101 ∷ 99 ∷ 116 ∷ 101 ∷ 100 ∷ 32
 abbrev pub turnsText : List ℕ
 turnsText = 116 ∷ 117 ∷ 114 ∷ 110 ∷ 115 ∷ 32 ∷ []
 
+-- `waits` and a space, after a space
+abbrev pub waitsText : List ℕ
+waitsText = 32 ∷ 119 ∷ 97 ∷ 105 ∷ 116 ∷ 115 ∷ 32 ∷ []
+
 -- `next` and a space
 abbrev pub nextText : List ℕ
 nextText = 110 ∷ 101 ∷ 120 ∷ 116 ∷ 32 ∷ []

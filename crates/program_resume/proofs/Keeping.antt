@@ -13,5 +13,5 @@ use Rattle.whole_machine.specs.declared.runs.WholeRan.{WholeRan}
 use Rattle.whole_machine.specs.Ran.{ranSummary}
 
 pub ran-kept : (s : Streams) (m : Machine) (c : Cursor) (budget : ℕ) (r : WholeRan) →
-    ranSummary r ≡ summaryOf (runOf s m c budget) → wellFormed m ≡ true → wellFormed (machineOf (r .machine)) ≡ true
+    ranSummary r ≡ summaryOf c (runOf s m c budget) → wellFormed m ≡ true → wellFormed (machineOf (r .machine)) ≡ true
 ran-kept s m c budget r h p = ap (λ (x : Summary). wellFormed (x .after)) h ∙ run-keeps .formed s m c budget p

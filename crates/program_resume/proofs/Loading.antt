@@ -36,7 +36,7 @@ use Rattle.program_resume.specs.Resume.{imageMachine, imageGood, imageFi
 
 -- the run, of streams that go by a name
 pub named-run : (tail : List ℕ) (m : Machine) (s : ResumeScript) (w : Streams) → w ≡ streamsOf tail (s .counts) →
-    summaryOf (runOf w m (s .cursor) (s .budget)) ≡ resumeRun tail m s
+    summaryOf (s .cursor) (runOf w m (s .cursor) (s .budget)) ≡ resumeRun tail m s
 unfolding resumeRun
 named-run tail m s w e = rw e
 

@@ -31,7 +31,7 @@ imageFine bs = accepts image bs
 
 -- the run that the records ask for
 unfoldable pub resumeRun : List ℕ → Machine → ResumeScript → Summary
-resumeRun tail m s = summaryOf (runOf (streamsOf tail (s .counts)) m (s .cursor) (s .budget))
+resumeRun tail m s = summaryOf (s .cursor) (runOf (streamsOf tail (s .counts)) m (s .cursor) (s .budget))
 
 abbrev pub byRecords : List ℕ → List ℕ → Machine → ResumeRead → List ℕ
 byRecords came tail m (Whole s) = toldOf came (resumeRun tail m s) (s .counts)

@@ -18,7 +18,7 @@ imageBytes m = image .put m
 -- the five lines of a run, and `next N`
 abbrev pub sixLines : Summary → Counts → List ℕ
 sixLines r n =
-    runLines (r .answer) (r .turns) (r .cursor) (n .n0) (n .n1) (n .n2) ++ numberLine nextText (r .cursor .next)
+    runLines (r .answer) (r .turns) (r .cursor) (r .stalls) (n .n0) (n .n1) (n .n2) ++ numberLine nextText (r .cursor .next)
 
 abbrev pub callRefused : Told RunEnd → Bool
 callRefused (accepted e) = false

@@ -8,6 +8,7 @@ ghost use Rattle.bits.specs.Overwrite.{Wrote};
 ghost use Rattle.machine.specs.Formed.{wellFormed};
 ghost use Rattle.machine.specs.Fresh.{machineOf};
 ghost use Rattle.run_order.specs.Ending.{toldEnding};
+ghost use Rattle.run_order.specs.Stalls.{toldStalls};
 ghost use Rattle.run_rules.specs.Run.{summary};
 ghost use Rattle.image_layout.specs.Image.{imageSize};
 ghost use Rattle.program_report.specs.Lines.{endLine};
@@ -18,6 +19,7 @@ use machine::fresh::WholeMachine;
 use program_records::counts::Counts;
 use run_order::cursor::Cursor;
 use run_order::ending::Ending;
+use run_order::stalls::LastStalls;
 use whole_machine::images::save_whole;
 
 // The image of a well-formed machine. Internal: there is room.
@@ -36,11 +38,12 @@ fn put_ran(
     answer: Ending,
     turns: u32,
     cursor: Cursor,
+    stalls: LastStalls,
     counts: Counts,
     m: WholeMachine,
 ) -> usize
     requires { ⌜ (wellFormed (machineOf m) ≡ true) × (resumeRoom ≤ length (now out)) ⌝ }
-    ensures { λ r. ⌜ Wrote (now (out .entry)) 0 (sixLines (summary (toldEnding answer) turns (machineOf m) cursor) counts ++ imageBytes (machineOf m)) (now (out .exit)) r ⌝ }
+    ensures { λ r. ⌜ Wrote (now (out .entry)) 0 (sixLines (summary (toldEnding answer) turns (machineOf m) cursor (toldStalls stalls)) counts ++ imageBytes (machineOf m)) (now (out .exit)) r ⌝ }
 {
     let p = program_report::put_run_lines(
         out,
@@ -48,6 +51,7 @@ fn put_ran(
         answer,
         turns,
         cursor,
+        stalls,
         counts.n0,
         counts.n1,
         counts.n2,
@@ -85,14 +89,15 @@ pub fn put_told(
     answer: Ending,
     turns: u32,
     cursor: Cursor,
+    stalls: LastStalls,
     counts: Counts,
     m: WholeMachine,
 ) -> usize
     requires { ⌜ (wellFormed (machineOf m) ≡ true) × (resumeRoom ≤ length (now out)) × (length (now came) ≤ imageSize) ⌝ }
-    ensures { λ r. ⌜ Wrote (now (out .entry)) 0 (toldOf (now (came .entry)) (summary (toldEnding answer) turns (machineOf m) cursor) counts) (now (out .exit)) r ⌝ }
+    ensures { λ r. ⌜ Wrote (now (out .entry)) 0 (toldOf (now (came .entry)) (summary (toldEnding answer) turns (machineOf m) cursor (toldStalls stalls)) counts) (now (out .exit)) r ⌝ }
 {
     if call_refused(answer) {
         return put_rejected(out, answer, came);
     }
-    put_ran(out, answer, turns, cursor, counts, m)
+    put_ran(out, answer, turns, cursor, stalls, counts, m)
 }

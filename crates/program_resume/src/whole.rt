@@ -38,13 +38,23 @@ fn run_told(
     out: &mut [u8],
 ) -> usize
     requires { ⌜ (wellFormed (machineOf m) ≡ true) × (resumeRoom ≤ length (now out)) × (length (now came) ≤ imageSize) ⌝ }
-    ensures { λ r. ⌜ Wrote (now (out .entry)) 0 (toldOf (now (came .entry)) (summaryOf (runOf (streams (now (s0 .entry)) (now (s1 .entry)) (now (s2 .entry))) (machineOf m) (script .cursor) (script .budget))) (script .counts)) (now (out .exit)) r ⌝ }
+    ensures { λ r. ⌜ Wrote (now (out .entry)) 0 (toldOf (now (came .entry)) (summaryOf (script .cursor) (runOf (streams (now (s0 .entry)) (now (s1 .entry)) (now (s2 .entry))) (machineOf m) (script .cursor) (script .budget))) (script .counts)) (now (out .exit)) r ⌝ }
 {
     let ran = run_whole(m, s0, s1, s2, script.cursor, script.budget);
     let answer = ran.answer;
     let cursor = ran.cursor;
+    let stalls = ran.stalls;
     let after = ran.machine;
-    put_told(out, came, answer, ran.turns, cursor, script.counts, after)
+    put_told(
+        out,
+        came,
+        answer,
+        ran.turns,
+        cursor,
+        stalls,
+        script.counts,
+        after,
+    )
 }
 
 // Reads the streams, runs the machine and tells of it. Internal: the script is the records', the streams hold the most words,

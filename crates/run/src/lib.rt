@@ -6,21 +6,45 @@ ghost use mathlib.Core.Path.{_≡_};
 ghost use Rattle.machine.specs.Machine.{machine};
 ghost use Rattle.run_order.specs.Cursor.{streams};
 ghost use Rattle.run_order.specs.Ending.{toldEnding};
+ghost use Rattle.run_order.specs.Stalls.{toldStalls};
 ghost use Rattle.run_rules.specs.Run.{runOf, summaryOf, summary};
+ghost use Rattle.run.specs.Ran.{Tells};
 use crate::checks::check_call;
+use crate::course::Course;
 use crate::course::take_turns;
 use machine::access::Access;
 use machine::control::Control;
 use run_order::cursor::Cursor;
 use run_order::ending::Ending;
+use run_order::stalls::LastStalls;
+use run_order::stalls::last_stalls;
+use run_order::stalls::no_stalls;
 
-// How a run ended, the turns it took, and the control part and cursor that it leaves. The rest of the machine is written
-// where it is lent.
+// How a run ended, the turns it took, the control part and cursor that it leaves, and each thread's last stall. The rest of the machine
+// is written where it is lent.
 pub struct Ran {
     pub answer: Ending,
     pub turns: u32,
     pub control: Control,
     pub cursor: Cursor,
+    pub stalls: LastStalls,
+}
+
+// The run with its last stalls told.
+fn told(c: Course) -> Ran
+    ensures { λ r. ⌜ Tells c r ⌝ }
+{
+    let answer = c.answer;
+    let control = c.control;
+    let cursor = c.cursor;
+    let pairs = c.pairs;
+    Ran {
+        answer,
+        turns: c.turns,
+        control,
+        cursor,
+        stalls: last_stalls(pairs),
+    }
 }
 
 // Runs the three streams from the cursor for at most `budget` turns: refusals 4, 10, 5 and 6, then turns until the run ends.
@@ -39,7 +63,7 @@ pub fn run(
     cursor: Cursor,
     budget: u32,
 ) -> Ran
-    ensures { λ r. ⌜ summary (toldEnding (r .answer)) (r .turns) (machine (r .control) (now (settings .exit)) (now (gprs .exit)) (now (config .exit)) (now (dest .entry)) (now (marks .exit)) (now («src_a» .exit)) (now («src_b» .exit))) (r .cursor) ≡ summaryOf (runOf (streams (now (s0 .entry)) (now (s1 .entry)) (now (s2 .entry))) (machine control (now (settings .entry)) (now (gprs .entry)) (now (config .entry)) (now (dest .entry)) (now (marks .entry)) (now («src_a» .entry)) (now («src_b» .entry))) cursor budget) ⌝ }
+    ensures { λ r. ⌜ summary (toldEnding (r .answer)) (r .turns) (machine (r .control) (now (settings .exit)) (now (gprs .exit)) (now (config .exit)) (now (dest .entry)) (now (marks .exit)) (now («src_a» .exit)) (now («src_b» .exit))) (r .cursor) (toldStalls (r .stalls)) ≡ summaryOf cursor (runOf (streams (now (s0 .entry)) (now (s1 .entry)) (now (s2 .entry))) (machine control (now (settings .entry)) (now (gprs .entry)) (now (config .entry)) (now (dest .entry)) (now (marks .entry)) (now («src_a» .entry)) (now («src_b» .entry))) cursor budget) ⌝ }
 {
     let k = check_call(
         control,
@@ -62,8 +86,9 @@ pub fn run(
             turns: 0,
             control,
             cursor,
+            stalls: no_stalls(),
         },
-        Access::Granted => take_turns(
+        Access::Granted => told(take_turns(
             control,
             settings,
             gprs,
@@ -76,6 +101,6 @@ pub fn run(
             s2,
             cursor,
             budget,
-        ),
+        )),
     }
 }

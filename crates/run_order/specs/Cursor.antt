@@ -56,5 +56,5 @@ pastOf c =
 unfoldable pub movedOf : Told Progress → Cursor → Cursor
 movedOf (accepted idle) c = onwardOf c
 movedOf (accepted passed) c = pastOf c
-movedOf (accepted (stalled n)) c = onwardOf c
+movedOf (accepted (stalled n cause)) c = onwardOf c
 movedOf (refused n vs) c = c

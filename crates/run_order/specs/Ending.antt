@@ -49,12 +49,12 @@ haltOf s c quiet left =
 unfoldable pub refusedWord : Told Progress → Halted
 refusedWord (accepted idle) = goesOn
 refusedWord (accepted passed) = goesOn
-refusedWord (accepted (stalled n)) = goesOn
+refusedWord (accepted (stalled n cause)) = goesOn
 refusedWord (refused n vs) = halts (accepted (wordRefused n vs))
 
 -- turns in a row without a passed word, a turn with this outcome included
 unfoldable pub quietAfter : Told Progress → ℕ → ℕ
 quietAfter (accepted idle) quiet = quiet + 1
 quietAfter (accepted passed) quiet = 0
-quietAfter (accepted (stalled n)) quiet = quiet + 1
+quietAfter (accepted (stalled n cause)) quiet = quiet + 1
 quietAfter (refused n vs) quiet = quiet + 1

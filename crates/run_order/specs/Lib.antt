@@ -1,2 +1,3 @@
 pub mod Cursor
 pub mod Ending
+pub mod Stalls

@@ -77,7 +77,7 @@ quiet-is : (o : Told Progress) (quiet : ℕ) → quietAfter o quiet ≡ cond (ha
 unfolding quietAfter
 quiet-is (accepted idle) quiet = refl
 quiet-is (accepted passed) quiet = refl
-quiet-is (accepted (stalled n)) quiet = refl
+quiet-is (accepted (stalled n cause)) quiet = refl
 quiet-is (refused n vs) quiet = refl
 
 -- a turn before a run whose end is known
@@ -109,7 +109,7 @@ word-goes : (p : Progress) → refusedWord (accepted p) ≡ goesOn
 unfolding refusedWord
 word-goes idle = refl
 word-goes passed = refl
-word-goes (stalled n) = refl
+word-goes (stalled n cause) = refl
 
 -- a turn that is due, and the run that follows it unless its word is refused
 module _ (s : Streams) (quiet : ℕ) (m : Machine) (c : Cursor) (left : ℕ) (rest : Run) (words : usedUp s c ≡ false) (few : quiet < 3)

@@ -27,7 +27,7 @@ moved-positions : (o : Told Progress) (c : Cursor) → hasPassed o ≡ false →
 unfolding movedOf onwardOf
 moved-positions (accepted idle) c h = record { at0 = refl; at1 = refl; at2 = refl }
 moved-positions (accepted passed) c h = let z : _≡_ {A = ℕ} 0 1 = cc in absurd (omega arith)
-moved-positions (accepted (stalled k)) c h = record { at0 = refl; at1 = refl; at2 = refl }
+moved-positions (accepted (stalled k cause)) c h = record { at0 = refl; at1 = refl; at2 = refl }
 moved-positions (refused n vs) c h = record { at0 = refl; at1 = refl; at2 = refl }
 
 turn-positions : (s : Streams) (m : Machine) (c : Cursor) → hasPassed (turnOf s m c .outcome) ≡ false → SamePositions (turnOf s m c .cursor) c
@@ -64,7 +64,7 @@ refused-own : (o : Told Progress) → OwnHalt (refusedWord o)
 unfolding refusedWord
 refused-own (accepted idle) = tt
 refused-own (accepted passed) = tt
-refused-own (accepted (stalled k)) = tt
+refused-own (accepted (stalled k cause)) = tt
 refused-own (refused n vs) = refl
 
 unless-own : (h : Halted) (m : Machine) (c : Cursor) (r : Run) → OwnHalt h → own (r .answer) ≡ true → own (unless h m c r .answer) ≡ true

@@ -1,11 +1,15 @@
+pub mod Threads
 pub mod Halting
 pub mod Turning
 pub mod Calls
+pub mod Moving
 pub mod Going
 pub mod Isolation
 pub mod Waiting
+pub mod Saying
 pub mod Settled
 pub mod Stuck
+pub mod StuckSays
 pub mod Kept
 pub mod Chained
 pub mod Observed

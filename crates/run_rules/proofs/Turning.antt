@@ -86,7 +86,7 @@ moved-within : (s : Streams) (c : Cursor) (w : ℕ) (o : Told Progress) → next
 unfolding movedOf
 moved-within s c w (accepted idle) e r = onward-within s c r
 moved-within s c w (accepted passed) e r = past-within s c w e r
-moved-within s c w (accepted (stalled k)) e r = onward-within s c r
+moved-within s c w (accepted (stalled k cause)) e r = onward-within s c r
 moved-within s c w (refused n vs) e r = r
 
 -- a turn keeps the machine well formed and the cursor within its streams

@@ -1,6 +1,6 @@
 -- A turn that is idle or stalled leaves the machine as it is and goes on to the following thread.
-use Prim.Native.Nat.{ℕ, zero, suc, _+_, _<_}
-use mathlib.Core.Path.{_≡_, refl, ap}
+use Prim.Native.Nat.{ℕ, _+_}
+use mathlib.Core.Path.{_≡_, refl}
 use mathlib.Core.Bool.{true, false}
 use native.Mathlib.Omega.{arith}
 use Rattle.machine.specs.Machine.{Machine}
@@ -11,22 +11,10 @@ use Rattle.step_rules.proofs.Unchanged.{offer-unchanged}
 use Rattle.run_order.specs.declared.cursor.Cursor.{Cursor}
 use Rattle.run_order.specs.declared.cursor.Offered.{Offered}
 use Rattle.run_order.specs.declared.cursor.Offered.the-variants.{NextWord, NoWord}
-use Rattle.run_order.specs.Cursor.{Streams, nextWord, cursor, following, onwardOf, movedOf}
+use Rattle.run_order.specs.Cursor.{Streams, nextWord, onwardOf, movedOf}
 use Rattle.run_order.specs.Ending.{refusedWord, quietAfter, goesOn}
 use Rattle.run_rules.specs.Run.{byWord, turnOf}
 use Rattle.run_rules.specs.StuckForGood.{waiting}
-
--- after three threads it is the first one's turn again
-pub threads-round : (t : ℕ) → t < 3 → following (following (following t)) ≡ t
-unfolding following
-threads-round zero h = refl
-threads-round (suc zero) h = refl
-threads-round (suc (suc zero)) h = refl
-threads-round (suc (suc (suc t))) h = absurd (omega arith)
-
-pub onward-round : (c : Cursor) → c .next < 3 → onwardOf (onwardOf (onwardOf c)) ≡ c
-unfolding onwardOf
-onward-round c h = ap (λ (t : ℕ). cursor (c .at0) (c .at1) (c .at2) t) (threads-round (c .next) h)
 
 -- what a turn with such an outcome does to the cursor and to the count of turns without a passed word
 pub record Waited (o : Told Progress) (c : Cursor) (quiet : ℕ) : Type 0 where
@@ -38,7 +26,7 @@ pub waited : (o : Told Progress) (c : Cursor) (quiet : ℕ) → waiting o ≡ tr
 unfolding movedOf quietAfter refusedWord
 waited (accepted idle) c quiet h = record { moves = refl; counts = refl; goes = refl }
 waited (accepted passed) c quiet h = let z : _≡_ {A = ℕ} 0 1 = cc in absurd (omega arith)
-waited (accepted (stalled k)) c quiet h = record { moves = refl; counts = refl; goes = refl }
+waited (accepted (stalled k cause)) c quiet h = record { moves = refl; counts = refl; goes = refl }
 waited (refused n vs) c quiet h = let z : _≡_ {A = ℕ} 0 1 = cc in absurd (omega arith)
 
 abbrev pub Waits : Streams → Machine → Cursor → Type 0
@@ -47,7 +35,7 @@ Waits s m c = waiting (turnOf s m c .outcome) ≡ true
 waiting-quiet : (o : Told Progress) → waiting o ≡ true → hasPassed o ≡ false
 waiting-quiet (accepted idle) h = refl
 waiting-quiet (accepted passed) h = let z : _≡_ {A = ℕ} 0 1 = cc in absurd (omega arith)
-waiting-quiet (accepted (stalled k)) h = refl
+waiting-quiet (accepted (stalled k cause)) h = refl
 waiting-quiet (refused n vs) h = refl
 
 -- a turn without a passed word

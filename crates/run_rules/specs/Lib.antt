@@ -8,3 +8,4 @@ pub mod Chained
 pub mod Observed
 pub mod Ended
 pub mod OfferedAgain
+pub mod StuckSays

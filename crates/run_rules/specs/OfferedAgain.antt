@@ -39,5 +39,5 @@ pub record OfferedAgain : Type 0 where
   -- where a turn of a run stalls and the two after it are not refused, the word that it was offered is its thread's word again
   pub again : (s : Streams) (m : Machine) (c : Cursor) (budget : ℕ) (earlier : List Turn) (t u v : Turn) (later : List Turn) →
       runOf s m c budget .turns ≡ earlier ++ (t ∷ u ∷ v ∷ later) →
-      (n : ℕ) → t .outcome ≡ accepted (stalled n) → wasRefused (v .outcome) ≡ false →
+      (n cause : ℕ) → t .outcome ≡ accepted (stalled n cause) → wasRefused (v .outcome) ≡ false →
       SameWord s (cursorLeft c earlier) (v .cursor)

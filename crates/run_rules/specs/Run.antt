@@ -10,6 +10,7 @@ use Rattle.run_order.specs.Cursor.{Streams, nextWord, movedOf}
 use Prim.Native.Nat.{ℕ, zero, suc}
 use mathlib.Core.List.{List, [], _∷_}
 use lib.ListN.{length}
+use Rattle.run_order.specs.Stalls.{Stalls, noStalls, stallsAfter}
 use Rattle.run_order.specs.Ending.{haltOf, refusedWord, quietAfter, RunEnd, Halted, halts, goesOn, budgetUsed}
 use Rattle.run_rules.specs.Checks.{callCheck, callHalt}
 
@@ -71,15 +72,26 @@ runOf s m c budget =
     let r = runFrom budget s 0 m c in
     unless (callHalt (callCheck s m c budget)) m c r
 
--- what comes back of a run: its answer, the number of its turns, and the machine and cursor at its end
+-- each thread's last stall after these turns, the first of them from cursor c, where l were the last stalls before it
+abbrev pub stallsLeft : Cursor → List Turn → Stalls → Stalls
+stallsLeft c [] l = l
+stallsLeft c (t ∷ later) l = stallsLeft (t .cursor) later (stallsAfter (t .outcome) (c .next) l)
+
+-- what comes back of a run: its answer, the number of its turns, the machine and cursor at its end, and each thread's last stall
 pub record Summary : Type 0 where
   pub answer : Told RunEnd
   pub turns : ℕ
   pub after : Machine
   pub cursor : Cursor
+  pub stalls : Stalls
 
-abbrev pub summary : Told RunEnd → ℕ → Machine → Cursor → Summary
-summary a n m c = record { answer = a; turns = n; after = m; cursor = c }
+abbrev pub summary : Told RunEnd → ℕ → Machine → Cursor → Stalls → Summary
+summary a n m c l = record { answer = a; turns = n; after = m; cursor = c; stalls = l }
 
-abbrev pub summaryOf : Run → Summary
-summaryOf r = summary (r .answer) (length (r .turns)) (r .after) (r .cursor)
+-- of a run from cursor c, where l were the last stalls before it
+abbrev pub summaryFrom : Stalls → Cursor → Run → Summary
+summaryFrom l c r = summary (r .answer) (length (r .turns)) (r .after) (r .cursor) (stallsLeft c (r .turns) l)
+
+-- none at a run's start
+abbrev pub summaryOf : Cursor → Run → Summary
+summaryOf c r = summaryFrom noStalls c r

@@ -18,7 +18,7 @@ use Rattle.run_rules.specs.Run.{Turn, Run, runOf}
 abbrev pub waiting : Told Progress → Bool
 waiting (accepted idle) = true
 waiting (accepted passed) = false
-waiting (accepted (stalled n)) = true
+waiting (accepted (stalled n cause)) = true
 waiting (refused n vs) = false
 
 pub record SamePositions (c d : Cursor) : Type 0 where

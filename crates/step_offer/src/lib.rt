@@ -10,11 +10,12 @@ ghost use Rattle.machine.specs.Sizes.{configCount, gprCount, markCount, setting
 ghost use Rattle.machine.specs.Machine.{machine};
 ghost use Rattle.machine.specs.Formed.{controlFormed};
 ghost use Rattle.machine.specs.Outcomes.{hasPassed, toldOutcome};
-ghost use Rattle.word_rules.specs.Offered.{came, droppedOn, toldStepped};
+ghost use Rattle.word_rules.specs.Offered.{withCause, came, droppedOn, toldStepped};
 ghost use Rattle.step_rules.specs.Step.{stepped, offerOf};
 use crate::store_words::store_word;
 use machine::control::Control;
 use machine::refusal::Outcome;
+use machine::refusal::StallCause;
 use word_control::control_word;
 use word_control::on_control;
 use word_control::wait_words::drop_if;
@@ -34,6 +35,18 @@ fn has_passed(o: Outcome) -> bool
     }
 }
 
+// What came of a word, with the cause put in where its thread's wait stalls it: the words are not given it.
+fn with_cause(o: Outcome, cause: u32) -> Outcome
+    ensures { λ r. ⌜ toldOutcome r ≡ withCause cause (toldOutcome o) ⌝ }
+{
+    if let Outcome::Stalled(s) = o {
+        if let StallCause::WaitHolds(_) = s {
+            return Outcome::Stalled(StallCause::WaitHolds(cause));
+        }
+    }
+    o
+}
+
 // A word that leaves the control part alone, but that it drops a lifted wait if it passes. Internal: the thread is in range.
 fn finished(o: Outcome, c: Control, t: usize, drops: bool) -> Stepped
     requires { ⌜ t < threadCount ⌝ }
@@ -47,7 +60,7 @@ fn finished(o: Outcome, c: Control, t: usize, drops: bool) -> Stepped
 }
 
 // A word offered by a thread. Its wait is judged once; then the word is refused, stalled or done, on the control part or on the
-// stores. No word reads or writes a Dest cell: the promise holds with any. Internal: the machine is well formed and the thread in
+// stores, and the wait's cause is put in. No word reads or writes a Dest cell: the promise holds with any. Internal: the machine is well formed and the thread in
 // range; a run sees to that once.
 pub fn offer(
     control: Control,
@@ -65,10 +78,17 @@ pub fn offer(
 {
     let j = judge(control, t);
     let blocks = j.blocks;
+    let cause = j.cause;
     let drops = j.drops;
     let op = (word >> 24) % 256;
     if on_control(op) {
-        return control_word(control, t, op, word, blocks, drops);
+        let x = control_word(control, t, op, word, blocks, drops);
+        let came = x.outcome;
+        let after = x.control;
+        return Stepped {
+            outcome: with_cause(came, cause),
+            control: after,
+        };
     }
     let owned = matrix_owns(control, 1);
     let pointers = control.pointers;
@@ -89,5 +109,5 @@ pub fn offer(
         bank_a,
         bank_b,
     );
-    finished(o, control, t, drops)
+    finished(with_cause(o, cause), control, t, drops)
 }

@@ -43,7 +43,7 @@ gates-alike m n t i Open a =
           agreeing (ap (λ (c : Control). controlAfter c t i) (control-alike a))
           (ap (λ (s : List ℕ). settingsAfter i t s) (a .settings));
     }
-gates-alike m n t i (Closed k) a = record { outcome = refl; agree = a }
+gates-alike m n t i (Closed k cause) a = record { outcome = refl; agree = a }
 
 gated-alike : (m n : Machine) (t : ℕ) (i : Instruction) → Agree m n → StepsAlike (gatedOf m t i) (gatedOf n t i)
 unfolding gatedOf

@@ -42,7 +42,7 @@ passed-kept m t i h r e =
 
 gate-kept : (m : Machine) (t : ℕ) (i : Instruction) (g : Gate) → t < 3 → InRange i → wellFormed m ≡ true → wellFormed (byGate m t i g .after) ≡ true
 gate-kept m t i Open h r e = passed-kept m t i h r e
-gate-kept m t i (Closed k) h r e = e
+gate-kept m t i (Closed k cause) h r e = e
 
 decoded-kept : (m : Machine) (t : ℕ) (d : Told Instruction) → t < 3 → DecodedInRange d → wellFormed m ≡ true → wellFormed (byDecoded m t d .after) ≡ true
 unfolding gatedOf

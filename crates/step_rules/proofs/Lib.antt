@@ -4,3 +4,4 @@ pub mod Kept
 pub mod Unchanged
 pub mod Offering
 pub mod Refusing
+pub mod Causes

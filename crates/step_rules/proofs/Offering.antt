@@ -14,12 +14,12 @@ use Rattle.word_rules.specs.declared.stepped.Stepped.{Stepped}
 use Rattle.word_rules.specs.declared.instruction.Instruction.{Instruction}
 use Rattle.word_rules.specs.declared.instruction.Instruction.the-variants.{Nop, Cell, Bank, Scalar, Sync, Config}
 use Rattle.word_rules.specs.Table.{controlRows, storeRows, has, said}
-use Rattle.word_rules.specs.Waits.{Gate, Open, Closed, waitFirst, namedBy, ownGate, gateOf}
+use Rattle.word_rules.specs.Waits.{heldBy, Gate, Open, Closed, namedBy, ownGate, gateOf}
 use Rattle.word_rules.specs.After.{wordAfter, controlAfter, settingsAfter, storesAfter}
-use Rattle.word_rules.specs.Offered.{gateOutcome, ifOpen, liftedNow, blocksNow, ControlStep, came, toldStepped, droppedIf, droppedOn, controlOffer, ownerGate, storeGate, StoreStep, left, storeOffer}
+use Rattle.word_rules.specs.Offered.{gateOutcome, ifOpen, waitFirst, withCause, liftedNow, blocksNow, causeIn, ControlStep, came, toldStepped, droppedIf, droppedOn, controlGate, controlOffer, ownerGate, storeGate, StoreStep, left, storeOffer}
 use Rattle.word_rules.proofs.Rows.{decode-on-control, decode-on-stores}
 use Rattle.word_rules.proofs.Saying.{Only, OnControl, OnStores, control-only, store-only}
-use Rattle.word_rules.proofs.Deciding.{named-now}
+use Rattle.word_rules.proofs.Deciding.{toldGate, gate-now}
 use Rattle.word_rules.proofs.Dropping.{dropped-after}
 use Rattle.step_rules.specs.Step.{stepped, machineAfter, byGate, gatedOf, byDecoded, offerOf}
 use Rattle.step_rules.proofs.Ways.{offered-as}
@@ -50,7 +50,7 @@ control-left (Scalar x) c t y = refl
 control-left (Sync x) c t y = absurd y
 control-left (Config x) c t y = refl
 
-owner-gate : (i : Instruction) (c : Control) (t : ℕ) → OnStores i → ownGate c t i ≡ ownerGate (matrixOwns c 1) i
+owner-gate : (i : Instruction) (c : Control) (t : ℕ) → OnStores i → ownGate c t i ≡ ownerGate (matrixOwns c 1) (matrixBank c 1) i
 owner-gate Nop c t y = refl
 owner-gate (Cell x) c t y = refl
 owner-gate (Bank x) c t y = refl
@@ -62,68 +62,68 @@ at-gate : (m : Machine) (t : ℕ) (i : Instruction) (k : Gate) → gateOf (m .co
 unfolding gatedOf
 at-gate m t i k e = ap (λ (g : Gate). byGate m t i g) (sym e)
 
--- a word's gate, by the block bits that its thread's wait stalls now
-gate-by : (c : Control) (t : ℕ) (i : Instruction) (blocks : ℕ) → blocks ≡ blocksNow c (waitOf c t) →
-    gateOf c t i ≡ waitFirst (namedBy blocks i) (ownGate c t i)
+-- a word's gate, by the block bits that its thread's wait stalls now, and what it is held by
+gate-by : (c : Control) (t : ℕ) (i : Instruction) (blocks cause : ℕ) → blocks ≡ blocksNow c (waitOf c t) → cause ≡ causeIn (heldBy c (waitOf c t)) →
+    gateOf c t i ≡ toldGate cause (controlGate blocks c t i)
 unfolding gateOf
-gate-by c t i blocks e =
-    ap (λ (b : Bool). waitFirst b (ownGate c t i)) (sym (named-now c t i) ∙ ap (λ (n : ℕ). namedBy n i) (sym e))
+gate-by c t i blocks cause e h = rw (e, h) (gate-now c t (waitOf c t) i)
 
--- the thread's wait: the block bits that it stalls now, and whether it is lifted
-module _ (c : Control) (s : List ℕ) (k : Stores) (t blocks : ℕ) (drops : Bool) (eb : blocks ≡ blocksNow c (waitOf c t)) (ed : drops ≡ liftedNow c (waitOf c t)) where
+-- the thread's wait: the block bits that it stalls now, what it is held by, and whether it is lifted
+module _ (c : Control) (s : List ℕ) (k : Stores) (t blocks cause : ℕ) (drops : Bool) (eb : blocks ≡ blocksNow c (waitOf c t)) (ec : cause ≡ causeIn (heldBy c (waitOf c t))) (ed : drops ≡ liftedNow c (waitOf c t)) where
   abbrev whole : Machine
   whole = machineWith c s k
 
   -- on the control part, by the gate that the word comes to
   control-at : (i : Instruction) (g : Gate) → OnControl i →
-      stepped (gateOutcome g) (machineWith (ifOpen g (wordAfter (droppedIf c t drops) t i) c) s k) ≡ byGate whole t i g
+      stepped (withCause cause (gateOutcome g)) (machineWith (ifOpen g (wordAfter (droppedIf c t drops) t i) c) s k) ≡ byGate whole t i (toldGate cause g)
   unfolding machineAfter
   control-at i Open y = rw (dropped-after c t drops i ed, settings-left i t s y, stores-left i t (matrixBank c 0) (matrixBank c 1) s k y)
-  control-at i (Closed cause) y = refl
+  control-at i (Closed n z) y = refl
 
   control-offered : (x : Told Instruction) → Only OnControl x → (r : Stepped) → toldStepped r ≡ controlOffer blocks drops c t x →
-      stepped (toldOutcome (r .outcome)) (machineWith (r .control) s k) ≡ byDecoded whole t x
+      stepped (withCause cause (toldOutcome (r .outcome))) (machineWith (r .control) s k) ≡ byDecoded whole t x
   unfolding controlOffer
-  control-offered (refused n vs) y r e = ap (λ (z : ControlStep). stepped (z .outcome) (machineWith (z .control) s k)) e
+  control-offered (refused n vs) y r e = ap (λ (z : ControlStep). stepped (withCause cause (z .outcome)) (machineWith (z .control) s k)) e
   control-offered (accepted i) y r e =
-      let g = waitFirst (namedBy blocks i) (ownGate c t i) in
-      ap (λ (z : ControlStep). stepped (z .outcome) (machineWith (z .control) s k)) e
-      ∙ (control-at i g y ∙ at-gate whole t i g (gate-by c t i blocks eb))
+      let g = controlGate blocks c t i in
+      ap (λ (z : ControlStep). stepped (withCause cause (z .outcome)) (machineWith (z .control) s k)) e
+      ∙ (control-at i g y ∙ at-gate whole t i (toldGate cause g) (gate-by c t i blocks cause eb ec))
 
   -- on the stores, in the same way
   stores-at : (i : Instruction) (g : Gate) → OnStores i →
-      stepped (gateOutcome g) (machineWith (droppedOn (gateOutcome g) c t drops) (ifOpen g (settingsAfter i t s) s) (ifOpen g (storesAfter i t (matrixBank c 0) (matrixBank c 1) s k) k))
-      ≡ byGate whole t i g
+      stepped (withCause cause (gateOutcome g)) (machineWith (droppedOn (withCause cause (gateOutcome g)) c t drops) (ifOpen g (settingsAfter i t s) s) (ifOpen g (storesAfter i t (matrixBank c 0) (matrixBank c 1) s k) k))
+      ≡ byGate whole t i (toldGate cause g)
   unfolding machineAfter
   stores-at i Open y =
       let e : droppedIf c t drops ≡ controlAfter c t i = sym (control-left i (droppedIf c t drops) t y) ∙ dropped-after c t drops i ed in
       rw e
-  stores-at i (Closed cause) y = refl
+  stores-at i (Closed n z) y = refl
 
   stores-offered : (owned : Bool) → owned ≡ matrixOwns c 1 → (x : Told Instruction) → Only OnStores x → (o : Told Progress) (s' : List ℕ) (k' : Stores) →
       left o s' k' ≡ storeOffer blocks owned t (matrixBank c 0) (matrixBank c 1) x s k →
-      stepped o (machineWith (droppedOn o c t drops) s' k') ≡ byDecoded whole t x
+      stepped (withCause cause o) (machineWith (droppedOn (withCause cause o) c t drops) s' k') ≡ byDecoded whole t x
   unfolding storeOffer
   stores-offered owned w (refused n vs) y o s' k' p =
-      ap (λ (z : StoreStep). stepped (z .outcome) (machineWith (droppedOn (z .outcome) c t drops) (z .settings) (z .kept))) p
+      ap (λ (z : StoreStep). stepped (withCause cause (z .outcome)) (machineWith (droppedOn (withCause cause (z .outcome)) c t drops) (z .settings) (z .kept))) p
   stores-offered owned w (accepted i) y o s' k' p =
-      let g = storeGate blocks owned i in
-      let own = owner-gate i c t y ∙ ap (λ (b : Bool). ownerGate b i) (sym w) in
-      let e : gateOf c t i ≡ g = gate-by c t i blocks eb ∙ ap (λ (z : Gate). waitFirst (namedBy blocks i) z) own in
-      ap (λ (z : StoreStep). stepped (z .outcome) (machineWith (droppedOn (z .outcome) c t drops) (z .settings) (z .kept))) p
-      ∙ (stores-at i g y ∙ at-gate whole t i g e)
+      let g = storeGate blocks owned (matrixBank c 1) i in
+      let own = owner-gate i c t y ∙ ap (λ (b : Bool). ownerGate b (matrixBank c 1) i) (sym w) in
+      let e : gateOf c t i ≡ toldGate cause g = gate-by c t i blocks cause eb ec ∙ ap (λ (z : Gate). toldGate cause (waitFirst (namedBy blocks i) z)) own in
+      ap (λ (z : StoreStep). stepped (withCause cause (z .outcome)) (machineWith (droppedOn (withCause cause (z .outcome)) c t drops) (z .settings) (z .kept))) p
+      ∙ (stores-at i g y ∙ at-gate whole t i (toldGate cause g) e)
 
   -- a word offered, by whether it works on the control part
   module _ (w : ℕ) (b : Bool) (eo : b ≡ has controlRows (field 24 8 w)) where
     pub offer-on-control : b ≡ true → (r : Stepped) → toldStepped r ≡ controlOffer blocks drops c t (said controlRows (field 24 8 w) w) →
-        stepped (toldOutcome (r .outcome)) (machineWith (r .control) s k) ≡ offerOf whole t w
-    offer-on-control h r e =
+        (o : Told Progress) → o ≡ withCause cause (toldOutcome (r .outcome)) → stepped o (machineWith (r .control) s k) ≡ offerOf whole t w
+    offer-on-control h r e o p =
+        ap (λ (z : Told Progress). stepped z (machineWith (r .control) s k)) p ∙
         control-offered (said controlRows (field 24 8 w) w) (control-only (field 24 8 w) w) r e
         ∙ offered-as whole t w (said controlRows (field 24 8 w) w) (decode-on-control w (sym eo ∙ h))
 
     pub offer-on-stores : b ≡ false → (owned : Bool) → owned ≡ matrixOwns c 1 → (o : Told Progress) (s' : List ℕ) (k' : Stores) →
         left o s' k' ≡ storeOffer blocks owned t (matrixBank c 0) (matrixBank c 1) (said storeRows (field 24 8 w) w) s k →
-        (r : Stepped) → toldStepped r ≡ came o (droppedOn o c t drops) →
+        (r : Stepped) → toldStepped r ≡ came (withCause cause o) (droppedOn (withCause cause o) c t drops) →
         stepped (toldOutcome (r .outcome)) (machineWith (r .control) s' k') ≡ offerOf whole t w
     offer-on-stores h owned q o s' k' p r e =
         ap (λ (z : ControlStep). stepped (z .outcome) (machineWith (z .control) s' k')) e

@@ -11,7 +11,7 @@ use Rattle.step_rules.specs.Step.{byGate, gatedOf, byDecoded, offerOf}
 module _ (m : Machine) (t : ℕ) where
   gated : (i : Instruction) (g : Gate) → TwoOrThree (byGate m t i g .outcome)
   gated i Open = tt
-  gated i (Closed n) = tt
+  gated i (Closed n cause) = tt
 
   decoded : (d : Told Instruction) → TwoOrThree d → TwoOrThree (byDecoded m t d .outcome)
   unfolding gatedOf

@@ -15,7 +15,7 @@ use Rattle.step_rules.specs.Unchanged.{Unchanged}
 module _ (m : Machine) (t : ℕ) where
   gated : (i : Instruction) (g : Gate) → hasPassed (byGate m t i g .outcome) ≡ false → byGate m t i g .after ≡ m
   gated i Open h = let z : _≡_ {A = ℕ} 0 1 = cc in absurd (omega arith)
-  gated i (Closed k) h = refl
+  gated i (Closed k cause) h = refl
 
   decoded : (d : Told Instruction) → hasPassed (byDecoded m t d .outcome) ≡ false → byDecoded m t d .after ≡ m
   unfolding gatedOf

@@ -30,7 +30,7 @@ passOf m t i = stepped (accepted passed) (machineAfter m t i)
 -- a stall changes nothing
 abbrev pub byGate : Machine → ℕ → Instruction → Gate → Step
 byGate m t i Open = passOf m t i
-byGate m t i (Closed n) = stepped (accepted (stalled n)) m
+byGate m t i (Closed n cause) = stepped (accepted (stalled n cause)) m
 
 unfoldable pub gatedOf : Machine → ℕ → Instruction → Step
 gatedOf m t i = byGate m t i (gateOf (m .control) t i)

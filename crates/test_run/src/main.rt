@@ -1,8 +1,9 @@
 // Runs streams on machines made for it and prints what came of each run, with the machine's digest after it, for comparison with
 // the oracle. Standard input, little-endian words of 4 bytes, is cases, each with a machine of its own: how it is made and lent
 // (6 words, `test_machines`), a budget, the three positions, the next thread, and three streams (input.rt). A line is
-// `END turns N at N N N next N machine D`: how the run ended, with document 01's number where it was refused (`rejected` is a
-// refused call), its turns, the cursor and the digest.
+// `END turns N at N N N next N stalls S S S machine D`: how the run ended, with document 01's number where it was refused
+// (`rejected` is a refused call), its turns, the cursor, each thread's last stall (`NUMBER:CAUSE`, or `-` for none) and the
+// digest.
 mod cases;
 mod input;
 mod lines;

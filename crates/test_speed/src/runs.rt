@@ -1,10 +1,12 @@
 // Jobs of runs: the same streams, each from their start on the machine that the one before left. A line is how the last ended, the turns
-// of all, and the machine's digest after them.
+// of all, the numbers and causes of the last stalls that the last handed on, added up, and the machine's digest after them.
 ghost use Prim.Native.Nat.{_+_, _≤_};
 ghost use lib.ListN.{length};
 use machine::control::Control;
 use machine::fresh::WholeMachine;
 use machine::refusal::refusal_number;
+use machine::refusal::stall_cause;
+use machine::refusal::stall_number;
 use machine::sizes::CONFIG_WORDS;
 use machine::sizes::DEST_CELLS;
 use machine::sizes::DEST_ROWS;
@@ -14,6 +16,9 @@ use machine::sizes::SOURCE_CELLS;
 use run::Ran;
 use run_order::cursor::Cursor;
 use run_order::ending::Ending;
+use run_order::stalls::LastStall;
+use run_order::stalls::LastStalls;
+use run_order::stalls::no_stalls;
 use std::num::wrapping_add_u32;
 use test_jobs::Job;
 use test_jobs::Line;
@@ -36,11 +41,13 @@ fn later(turns: u32, ran: Ran) -> Ran {
     let answer = ran.answer;
     let control = ran.control;
     let cursor = ran.cursor;
+    let stalls = ran.stalls;
     Ran {
         answer,
         turns: wrapping_add_u32(turns, ran.turns),
         control,
         cursor,
+        stalls,
     }
 }
 
@@ -55,14 +62,34 @@ fn ending_number(e: Ending) -> u32 {
     }
 }
 
+fn stall_sum(l: LastStall) -> u32 {
+    match l {
+        LastStall::Unstalled => 0,
+        LastStall::StalledBy(s) => {
+            wrapping_add_u32(stall_number(s), (stall_cause(s) % 65536) as u32)
+        }
+    }
+}
+
+fn stalls_sum(l: LastStalls) -> u32 {
+    let t0 = l.t0;
+    let t1 = l.t1;
+    let t2 = l.t2;
+    wrapping_add_u32(
+        stall_sum(t0),
+        wrapping_add_u32(stall_sum(t1), stall_sum(t2)),
+    )
+}
+
 fn line_of(ran: Ran, sum: u32) -> Line {
     let answer = ran.answer;
+    let stalls = ran.stalls;
     Line {
-        count: 3,
+        count: 4,
         first: ending_number(answer),
         second: ran.turns,
-        third: sum,
-        fourth: 0,
+        third: stalls_sum(stalls),
+        fourth: sum,
     }
 }
 
@@ -87,6 +114,7 @@ fn run_lent(
         turns: 0,
         control,
         cursor: first_cursor(),
+        stalls: no_stalls(),
     };
     let mut left = times;
     while 0 < left {

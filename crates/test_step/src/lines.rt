@@ -2,6 +2,7 @@
 use libc::STDOUT_FILENO;
 use machine::refusal::Outcome;
 use machine::refusal::refusal_number;
+use machine::refusal::stall_cause;
 use machine::refusal::stall_number;
 
 fn write_number(start: &[u8], n: u32) {
@@ -17,12 +18,15 @@ fn write_outcome(o: Outcome) {
         Outcome::Passed => {
             io::write_all(STDOUT_FILENO, b"p");
         }
-        Outcome::Stalled(s) => write_number(b"s ", stall_number(s)),
+        Outcome::Stalled(s) => {
+            write_number(b"s ", stall_number(s));
+            write_number(b" ", stall_cause(s));
+        }
         Outcome::Refused(r) => write_number(b"r ", refusal_number(r)),
     }
 }
 
-// `p DIGEST`, `s N DIGEST` or `r N DIGEST`.
+// `p DIGEST`, `s NUMBER CAUSE DIGEST` or `r NUMBER DIGEST`.
 pub(crate) fn write_line(o: Outcome, digest: u32) {
     write_outcome(o);
     write_number(b" ", digest);

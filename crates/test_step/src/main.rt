@@ -1,7 +1,8 @@
 // Runs words on machines made for it and prints what came of each, with the machine's digest after it, for comparison with the
 // oracle. Standard input, in little-endian words of 4 bytes, is groups: how the machine is made and lent (6 words,
 // `test_machines`), a count, and that many cases of a thread and a word. Within a group the machine goes on from case to case.
-// A line is `p D`, `s N D` or `r N D`: passed, stalled or refused with document 01's number, and the digest.
+// A line is `p D`, `s N C D` or `r N D`: passed, stalled or refused with document 01's number, a stall's cause (document 02, K3),
+// and the digest.
 mod cases;
 mod input;
 mod lines;
@@ -9,7 +10,7 @@ mod lines;
 use crate::input::HEADER_BYTES;
 use libc::STDIN_FILENO;
 
-const INPUT_MOST: usize = 262144;
+const INPUT_MOST: usize = 1048576;
 
 // The groups, one after the other, up to the input's end or a header that is cut.
 fn run_groups(input: &[u8]) {

@@ -7,12 +7,14 @@ ghost use Rattle.whole_machine.specs.Ran.{ranSummary};
 use machine::fresh::WholeMachine;
 use run_order::cursor::Cursor;
 use run_order::ending::Ending;
+use run_order::stalls::LastStalls;
 
-// What came of a run, and the machine, cursor and turns at its end.
+// What came of a run, the machine, cursor and turns at its end, and each thread's last stall.
 pub struct WholeRan {
     pub answer: Ending,
     pub turns: u32,
     pub cursor: Cursor,
+    pub stalls: LastStalls,
     pub machine: WholeMachine,
 }
 
@@ -25,7 +27,7 @@ pub fn run_whole(
     cursor: Cursor,
     budget: u32,
 ) -> WholeRan
-    ensures { λ r. ⌜ ranSummary r ≡ summaryOf (runOf (streams (now (s0 .entry)) (now (s1 .entry)) (now (s2 .entry))) (machineOf m) cursor budget) ⌝ }
+    ensures { λ r. ⌜ ranSummary r ≡ summaryOf cursor (runOf (streams (now (s0 .entry)) (now (s1 .entry)) (now (s2 .entry))) (machineOf m) cursor budget) ⌝ }
 {
     let mut settings = m.settings;
     let mut gprs = m.gprs;
@@ -51,6 +53,7 @@ pub fn run_whole(
     );
     let answer = ran.answer;
     let end = ran.cursor;
+    let stalls = ran.stalls;
     let control = ran.control;
     let machine = WholeMachine {
         control,
@@ -66,6 +69,7 @@ pub fn run_whole(
         answer,
         turns: ran.turns,
         cursor: end,
+        stalls,
         machine,
     }
 }

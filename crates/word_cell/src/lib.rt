@@ -42,13 +42,13 @@ pub fn trnsp_src_b(src_b: &mut [u32], bank_b: usize, owned: bool, word: u32, blo
 {
     let stalls = b6(blocks);
     if stalls {
-        return Outcome::Stalled(StallCause::WaitHolds);
+        return Outcome::Stalled(StallCause::WaitHolds(0));
     }
     if owned {
         transpose_face(src_b, row_place(bank_b, 16));
         return Outcome::Passed;
     }
-    Outcome::Stalled(StallCause::BankNotMatrix)
+    Outcome::Stalled(StallCause::BankNotMatrix(bank_b as u32))
 }
 
 // MOVB2A, with the banks at the matrix pointers, and whether Matrix owns SrcB's.
@@ -81,7 +81,7 @@ pub fn mov_b2a(
         );
         return Outcome::Passed;
     }
-    Outcome::Stalled(StallCause::BankNotMatrix)
+    Outcome::Stalled(StallCause::BankNotMatrix(bank_b as u32))
 }
 
 // ZEROACC of thread t.

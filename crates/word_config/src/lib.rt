@@ -95,7 +95,7 @@ pub fn set_c16(settings: &mut [u16], t: usize, word: u32, blocks: u16) -> Outcom
 {
     let stalls = b7(blocks);
     if stalls {
-        return Outcome::Stalled(StallCause::WaitHolds);
+        return Outcome::Stalled(StallCause::WaitHolds(0));
     }
     set_setting(settings, t, entry(word), entry_value(word));
     Outcome::Passed
@@ -115,7 +115,7 @@ pub fn rmw_cib(
 {
     let stalls = b7(blocks);
     if stalls {
-        return Outcome::Stalled(StallCause::WaitHolds);
+        return Outcome::Stalled(StallCause::WaitHolds(0));
     }
     let bank = bank_of(settings, t);
     rmw_byte(

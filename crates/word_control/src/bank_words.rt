@@ -28,7 +28,7 @@ pub(crate) fn set_dvalid(c: Control, t: usize, word: u32, blocks: u16, drops: bo
 {
     if b6(blocks) {
         return Stepped {
-            outcome: Outcome::Stalled(StallCause::WaitHolds),
+            outcome: Outcome::Stalled(StallCause::WaitHolds(0)),
             control: c,
         };
     }
@@ -46,7 +46,7 @@ pub(crate) fn clear_dvalid(c: Control, t: usize, word: u32, blocks: u16, drops: 
 {
     if b6(blocks) {
         return Stepped {
-            outcome: Outcome::Stalled(StallCause::WaitHolds),
+            outcome: Outcome::Stalled(StallCause::WaitHolds(0)),
             control: c,
         };
     }

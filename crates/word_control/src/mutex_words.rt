@@ -74,8 +74,9 @@ pub(crate) fn at_get_m(c: Control, t: usize, word: u32, blocks: u16, drops: bool
             control: with_mutex(d, m, t as u8 + 1),
         };
     }
+    let by = holder as u32 - 1;
     Stepped {
-        outcome: Outcome::Stalled(StallCause::MutexHeld),
+        outcome: Outcome::Stalled(StallCause::MutexHeld(by)),
         control: c,
     }
 }

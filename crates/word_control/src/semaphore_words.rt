@@ -32,7 +32,7 @@ pub(crate) fn change_word(
 {
     if b1(blocks) {
         return Stepped {
-            outcome: Outcome::Stalled(StallCause::WaitHolds),
+            outcome: Outcome::Stalled(StallCause::WaitHolds(0)),
             control: c,
         };
     }

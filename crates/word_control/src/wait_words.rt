@@ -44,7 +44,7 @@ pub(crate) fn stall_wait(c: Control, t: usize, word: u32, blocks: u16, drops: bo
 {
     if b1(blocks) {
         return Stepped {
-            outcome: Outcome::Stalled(StallCause::WaitHolds),
+            outcome: Outcome::Stalled(StallCause::WaitHolds(0)),
             control: c,
         };
     }
@@ -66,7 +66,7 @@ pub(crate) fn sem_wait(c: Control, t: usize, word: u32, blocks: u16, drops: bool
 {
     if b1(blocks) {
         return Stepped {
-            outcome: Outcome::Stalled(StallCause::WaitHolds),
+            outcome: Outcome::Stalled(StallCause::WaitHolds(0)),
             control: c,
         };
     }

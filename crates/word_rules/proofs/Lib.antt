@@ -11,3 +11,4 @@ pub mod Masks
 pub mod Deciding
 pub mod Dropping
 pub mod Offering
+pub mod Causes

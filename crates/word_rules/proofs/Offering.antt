@@ -9,9 +9,9 @@ use Rattle.machine.specs.Machine.{Stores}
 use Rattle.machine.specs.Answers.{Told, accepted, provided}
 use Rattle.machine.specs.Outcomes.{Progress, stalled}
 use Rattle.word_rules.specs.declared.instruction.Instruction.{Instruction}
-use Rattle.word_rules.specs.Waits.{Gate, namedBy, ownGate, waitFirst}
+use Rattle.word_rules.specs.Waits.{Gate, namedBy, ownGate}
 use Rattle.word_rules.specs.After.{wordAfter, settingsAfter, storesAfter}
-use Rattle.word_rules.specs.Offered.{gateOutcome, ifOpen, outcomeOf, partOf, waitOutcome, came, droppedIf, controlOffer, ownerGate, left, storeOffer}
+use Rattle.word_rules.specs.Offered.{gateOutcome, ifOpen, outcomeOf, partOf, waitFirst, waitOutcome, came, droppedIf, controlOffer, ownerGate, left, storeOffer}
 
 -- a word that says i if it and its fields are fine: 2, then 3
 abbrev says : Bool → Bool → Instruction → Told Instruction
@@ -81,24 +81,24 @@ module _ (a b s : Bool) (blocks : ℕ) (owned : Bool) (t bankA bankB : ℕ) (i :
       left o u k ≡ storeOffer blocks owned t bankA bankB (says a b i) u k
   unfolding storeOffer
   store-stopped o h p =
-      left-alike (p i ∙ stopped-outcome blocks (ownerGate owned) i a b s e h)
-      (stopped-part blocks (ownerGate owned) i (λ j. settingsAfter j t u) u a b s e h)
-      (stopped-part blocks (ownerGate owned) i (λ j. storesAfter j t bankA bankB u k) k a b s e h)
+      left-alike (p i ∙ stopped-outcome blocks (ownerGate owned bankB) i a b s e h)
+      (stopped-part blocks (ownerGate owned bankB) i (λ j. settingsAfter j t u) u a b s e h)
+      (stopped-part blocks (ownerGate owned bankB) i (λ j. storesAfter j t bankA bankB u k) k a b s e h)
 
   pub store-going : (not a || (not b || s)) ≡ false →
-      left (gateOutcome (ownerGate owned i)) (ifOpen (ownerGate owned i) (settingsAfter i t u) u) (ifOpen (ownerGate owned i) (storesAfter i t bankA bankB u k) k)
+      left (gateOutcome (ownerGate owned bankB i)) (ifOpen (ownerGate owned bankB i) (settingsAfter i t u) u) (ifOpen (ownerGate owned bankB i) (storesAfter i t bankA bankB u k) k)
       ≡ storeOffer blocks owned t bankA bankB (says a b i) u k
   unfolding storeOffer
   store-going h =
-      left-alike (going-outcome blocks (ownerGate owned) i a b s e h)
-      (going-part blocks (ownerGate owned) i (λ j. settingsAfter j t u) u a b s e h)
-      (going-part blocks (ownerGate owned) i (λ j. storesAfter j t bankA bankB u k) k a b s e h)
+      left-alike (going-outcome blocks (ownerGate owned bankB) i a b s e h)
+      (going-part blocks (ownerGate owned bankB) i (λ j. settingsAfter j t u) u a b s e h)
+      (going-part blocks (ownerGate owned bankB) i (λ j. storesAfter j t bankA bankB u k) k a b s e h)
 
 -- words that nothing but their thread's wait can refuse or stall: held by it, or free to do their work
 pub control-held : {s : Bool} (blocks : ℕ) (drops : Bool) (c : Control) (t : ℕ) (i : Instruction) → s ≡ namedBy blocks i → s ≡ true →
-    came (accepted (stalled 101)) c ≡ controlOffer blocks drops c t (accepted i)
+    came (accepted (stalled 101 0)) c ≡ controlOffer blocks drops c t (accepted i)
 control-held {s} blocks drops c t i e h = control-stopped true true s blocks drops c t i e _ h (λ j. rw h)
 
 pub store-held : {s : Bool} (blocks : ℕ) (owned : Bool) (t bankA bankB : ℕ) (i : Instruction) (u : List ℕ) (k : Stores) → s ≡ namedBy blocks i → s ≡ true →
-    left (accepted (stalled 101)) u k ≡ storeOffer blocks owned t bankA bankB (accepted i) u k
+    left (accepted (stalled 101 0)) u k ≡ storeOffer blocks owned t bankA bankB (accepted i) u k
 store-held {s} blocks owned t bankA bankB i u k e h = store-stopped true true s blocks owned t bankA bankB i e u k _ h (λ j. rw h)

@@ -10,3 +10,4 @@ pub mod Waits
 pub mod After
 pub mod InRange
 pub mod Offered
+pub mod Causes

@@ -49,7 +49,8 @@ pub fn stopped(fine_word: bool, fine_field: bool, stalls: bool) -> bool
     }
 }
 
-// What comes of a word that nothing but its thread's wait can stall: 2, 3, then 101, else it passes.
+// What comes of a word that nothing but its thread's wait can stall: 2, 3, then 101, else it passes. The cause of 101 is not known here:
+// `step_offer` puts it in.
 pub fn verdict(fine_word: bool, fine_field: bool, stalls: bool) -> Outcome
     ensures { λ r. ⌜ ((i : Instruction) → toldOutcome r ≡ waitOutcome stalls (provided «fine_word» 2 (provided «fine_field» 3 (accepted i)))) ⌝ }
 {
@@ -60,7 +61,7 @@ pub fn verdict(fine_word: bool, fine_field: bool, stalls: bool) -> Outcome
         return Outcome::Refused(Refusal::BadField);
     }
     if stalls {
-        return Outcome::Stalled(StallCause::WaitHolds);
+        return Outcome::Stalled(StallCause::WaitHolds(0));
     }
     Outcome::Passed
 }

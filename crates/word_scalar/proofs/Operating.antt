@@ -14,7 +14,7 @@ use Rattle.word_rules.proofs.Offering.{store-held, store-going}
 use Rattle.word_scalar.specs.Arithmetic.{arithmeticOf, combinedOf}
 
 pub arithmetic-held : (m : Bool) {s : Bool} (blocks t w : ℕ) (g : List ℕ) → s ≡ flag 5 blocks → s ≡ true →
-    GprsOffered blocks t (arithmeticOf m w) g (accepted (stalled 101)) g
+    GprsOffered blocks t (arithmeticOf m w) g (accepted (stalled 101 0)) g
 arithmetic-held true blocks t w g e h owned a b u k = store-held blocks owned t a b _ u _ e h
 arithmetic-held false blocks t w g e h owned a b u k = store-held blocks owned t a b _ u _ e h
 

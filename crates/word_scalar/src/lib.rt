@@ -48,7 +48,7 @@ pub fn arithmetic(gprs: &mut [u32], t: usize, word: u32, blocks: u16, multiply: 
 {
     let stalls = b5(blocks);
     if stalls {
-        return Outcome::Stalled(StallCause::WaitHolds);
+        return Outcome::Stalled(StallCause::WaitHolds(0));
     }
     let x = gprs[gpr_place(t, operand_a(word))];
     let y = operand_of(gprs, t, operand_b(word));
@@ -62,7 +62,7 @@ pub fn dma_nop(gprs: &[u32], t: usize, word: u32, blocks: u16) -> Outcome
     ensures { λ r. ⌜ GprsOffered blocks t (dmaNopOf word) (now (gprs .entry)) (toldOutcome r) (now (gprs .entry)) ⌝ }
 {
     if b5(blocks) {
-        return Outcome::Stalled(StallCause::WaitHolds);
+        return Outcome::Stalled(StallCause::WaitHolds(0));
     }
     Outcome::Passed
 }

@@ -7,6 +7,8 @@ use Rattle.run_rules.proofs.Ended.{ended}
 use Rattle.run_rules.proofs.OfferedAgain.{offered-again}
 use Rattle.step_rules.proofs.Kept.{keeps-formed}
 use Rattle.step_rules.proofs.Unchanged.{unchanged}
+use Rattle.step_rules.proofs.Causes.{causes-hold}
+use Rattle.run_rules.proofs.StuckSays.{stuck-says}
 use Rattle.dest.proofs.Covering.{views-cover}
 use Rattle.image.proofs.Trips.{image-facts, round-trips}
 use Rattle.bench_dest.proofs.DestBack.{dest-promises}
@@ -22,7 +24,7 @@ use Rattle.acceptance.proofs.promises.Statement.{statement}
 use Rattle.acceptance.proofs.promises.Tie as tie
 
 returns : tie.Need-returns
-returns c = (isolated, (all-worked, (unchanged, (keeps-formed, (chained, (observed, (offered-again, (ended, (run-keeps, (stuck-for-good, (views-cover, (image-facts, (round-trips, (gpr-promises, (dest-promises, (source-promises, (cut, (joined-pieces, (refused-pieces, (carries-formed, (empty-loads, (stages, (plain-streams, (back, (slots-handed-back, fresh-expander)))))))))))))))))))))))))
+returns c = (isolated, (all-worked, (unchanged, (keeps-formed, (chained, (observed, (offered-again, (ended, (run-keeps, (stuck-for-good, (causes-hold, (stuck-says, (views-cover, (image-facts, (round-trips, (gpr-promises, (dest-promises, (source-promises, (cut, (joined-pieces, (refused-pieces, (carries-formed, (empty-loads, (stages, (plain-streams, (back, (slots-handed-back, fresh-expander)))))))))))))))))))))))))))
 
 pub promises-spec : {M : Type 1} → statement M
 promises-spec = tie.close (tie.spec returns)

@@ -3,6 +3,7 @@ use mathlib.Core.Path.{sym}
 use lib.Seq.{length-take-le}
 use Rattle.bits.proofs.Overwrite.{wrote-as}
 use Rattle.run_order.specs.Ending.{toldEnding}
+use Rattle.run_order.specs.Stalls.{toldStalls}
 use Rattle.program_records.proofs.Sound.{sound-facts}
 use Rattle.program_emulate.proofs.Printed.{printed}
 use borrow.Author.Needs.{needs}
@@ -40,10 +41,10 @@ slice-aggregate-run-fresh-3 c =
 
 returns : tie.Need-returns
 returns c =
-    let a = c .before .before .before .before .before .before .before .before .before .before .before .before .before .before .before .before .before .before .before .args in
-    let f = c .before .before .before .before .before .run-fresh in
-    let same = printed (a .input .now) (a .script) _ (toldEnding (f .result .answer)) (f .result .turns) (f .result .cursor) (c .before .before .before .before .before .before .before .before .before .before .before .before .read-streams .ensures)
-    (record { answer = f .ensures .0; turns = f .ensures .1 .0; cursor = f .ensures .1 .1 }) in
+    let a = c .before .before .before .before .before .before .before .before .before .before .before .before .before .before .before .before .before .before .before .before .args in
+    let f = c .before .before .before .before .before .before .run-fresh in
+    let same = printed (a .input .now) (a .script) _ (toldEnding (f .result .answer)) (f .result .turns) (f .result .cursor) (toldStalls (f .result .stalls)) (c .before .before .before .before .before .before .before .before .before .before .before .before .before .read-streams .ensures)
+    (record { answer = f .ensures .0; turns = f .ensures .1 .0; cursor = f .ensures .1 .1 .0; stalls = f .ensures .1 .1 .1 }) in
     (wrote-as same (c .before .before .put-run-lines .ensures .0), omega arith)
 
 pub run-script-spec : {M : Type 1} → statement M

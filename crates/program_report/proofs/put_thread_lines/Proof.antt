@@ -1,6 +1,6 @@
-use Rattle.program_report.specs.Lines.{threadLines}
 use Rattle.bits.proofs.Overwrite.{wrote-then}
 use native.Mathlib.Omega.{arith}
+use Rattle.program_report.specs.Lines.{threadLines}
 use borrow.Author.Needs.{needs}
 use Rattle.program_report.proofs.put_thread_lines.Statement.{statement}
 use Rattle.program_report.proofs.put_thread_lines.Tie as tie

@@ -12,15 +12,17 @@ take-turns-requires c κs =
 
 returns : tie.Need-returns
 returns c =
-    let k = c .before .before .before .check-call in
-    ap summaryOf (call-refused _ _ _ _ (k .result) (k .ensures) _ (c .before .k .given .1))
+    let k = c .before .before .before .before .check-call in
+    rw (c .no-stalls .ensures) (ap (summaryOf _) (call-refused _ _ _ _ (k .result) (k .ensures) _ (c .before .before .k .given .1)))
 
 returns-2 : tie.Need-returns-2
 returns-2 c =
-    let t = c .before .before .before .before .before .before .before .before .before .before .before .before in
+    let x = c .told .ensures in
+    let t = c .before .before .before .before .before .before .before .before .before .before .before .before .before in
     let k = t .before .before .before .before .before .before .before .before .before in
-    t .take-turns .ensures (k .before .before .before .before .before .before .before .before .before .before .before .before .before .before .before .before .before .args .dest .now)
-    ∙ ap summaryOf (call-runs _ _ _ _ (k .check-call .result) (k .check-call .ensures) (t .before .before .before .before .before .before .before .enum-told .given .1))
+    rw (x .answer, x .turns, x .control, x .cursor, x .stalls)
+    (t .take-turns .ensures (k .before .before .before .before .before .before .before .before .before .before .before .before .before .before .before .before .before .args .dest .now)
+    ∙ ap (summaryOf _) (call-runs _ _ _ _ (k .check-call .result) (k .check-call .ensures) (t .before .before .before .before .before .before .before .enum-told .given .1)))
 
 pub run-spec : {M : Type 1} → statement M
 run-spec =
@@ -28,8 +30,10 @@ run-spec =
     (tie.spec
     (λ c κs. search needs)
     (λ c. search needs)
+    (λ c κs. search needs)
     (λ c. search needs)
     take-turns-requires
+    (λ c κs. search needs)
     (λ c. search needs)
     (λ c. search needs)
     (λ c. search needs)

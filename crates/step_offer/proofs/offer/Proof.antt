@@ -14,9 +14,10 @@ control-word-requires c κs =
 
 returns : tie.Need-returns
 returns c cells =
-    let o = c .before .before in
+    let x = c .before .before in
+    let o = x .before .before in
     let j = o .before .judge .ensures in
-    offer-on-control _ _ _ _ _ _ (j .0) (j .1) _ (o .on-control .result) (o .on-control .ensures) (c .before .if1 .taken) (c .control-word .result) (c .control-word .ensures)
+    offer-on-control _ _ _ _ _ _ _ (j .0) (j .1) (j .2) _ (o .on-control .result) (o .on-control .ensures) (x .before .if1 .taken) (x .control-word .result) (x .control-word .ensures) _ (c .with-cause .ensures)
 
 cast-bank-a : tie.Need-cast-bank-a
 cast-bank-a c =
@@ -34,16 +35,19 @@ store-word-requires c κs =
     let p = s .pre in
     (p .0, p .1, p .2, p .3, p .4, p .5, p .7, omega (arith, pointer-at (s .args .control) 0 (p .6)), omega (arith, pointer-at (s .args .control) 1 (p .6)))
 
+finished-requires : tie.Need-finished-requires
+finished-requires c κs = c .before .before .before .before .before .before .before .before .before .before .before .before .before .before .before .before .before .before .before .before .before .before .before .before .before .before .before .before .before .before .before .pre .7
+
 returns-2 : tie.Need-returns-2
 returns-2 c cells =
-    let w = c .before .before .before .before .before .before .before .before .before .before .before .before .before in
+    let w = c .before .before .before .before .before .before .before .before .before .before .before .before .before .before in
     let q = w .before .before .before .before .before .before .before .before .before in
     let o = q .before in
     let j = o .before .judge .ensures in
     let owned = w .before .before .before .before .before .before .before .before .matrix-owns in
     let a = o .before .before .before .before .before .before .before .before .args in
-    offer-on-stores (a .control) (a .settings .now) (stores (a .gprs .now) (a .config .now) (destOf cells (a .marks .now)) (a .src-a .now) (a .src-b .now)) _ _ _ (j .0) (j .1) _
-    (o .on-control .result) (o .on-control .ensures) (q .if1 .left) (owned .result) (owned .ensures) _ _ _ (w .store-word .ensures cells) (c .finished .result) (c .finished .ensures)
+    offer-on-stores (a .control) (a .settings .now) (stores (a .gprs .now) (a .config .now) (destOf cells (a .marks .now)) (a .src-a .now) (a .src-b .now)) _ _ _ _ (j .0) (j .1) (j .2) _
+    (o .on-control .result) (o .on-control .ensures) (q .if1 .left) (owned .result) (owned .ensures) _ _ _ (w .store-word .ensures cells) (c .finished .result) (rw (c .before .with-cause2 .ensures) at (c .finished .ensures))
 
 pub offer-spec : {M : Type 1} → statement M
 offer-spec =
@@ -52,6 +56,7 @@ offer-spec =
     (λ c κs. search needs)
     (λ c κs. search needs)
     control-word-requires
+    (λ c κs. search needs)
     returns
     (λ c κs. search needs)
     (λ c. search needs)
@@ -60,6 +65,7 @@ offer-spec =
     cast-bank-b
     store-word-requires
     (λ c κs. search needs)
+    finished-requires
     (λ c. search needs)
     (λ c. search needs)
     (λ c. search needs)

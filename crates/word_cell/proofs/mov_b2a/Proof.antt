@@ -47,4 +47,5 @@ mov-b2a-spec =
     (λ c κs. search needs)
     (λ c. search needs)
     returns-2
+    (λ c. search needs)
     returns-3)

@@ -30,4 +30,5 @@ trnsp-src-b-spec =
     (λ c κs. search needs)
     (λ c. search needs)
     returns-2
+    (λ c. search needs)
     returns-3)

@@ -16,5 +16,5 @@ loop-less c = omega (arith, c .before .before .before .before .before .before .b
 pub run-lent-spec : {M : Type 1} → statement M
 run-lent-spec =
     tie.close
-    (tie.spec Inv-loop μ-loop (λ c κs. search needs) (λ c. search needs) (λ c. search needs) (λ c κs. search needs) (λ c κs. search needs)
+    (tie.spec Inv-loop μ-loop (λ c κs. search needs) (λ c κs. search needs) (λ c. search needs) (λ c. search needs) (λ c κs. search needs) (λ c κs. search needs)
     (λ c κs. search needs) loop-less (λ c. search needs) (λ c κs. search needs) (λ c κs. search needs) (λ c. search needs))

@@ -1,7 +1,9 @@
 use mathlib.Core.Path.{sym, _∙_, _≡_}
 use mathlib.Core.Bool.{true, false}
 use native.Mathlib.Omega.{arith}
-use borrow.Author.Tests.{ltb-true}
+use lib.Dec.{eqb}
+use borrow.Author.Tests.{ltb-true, eqb-false}
+use Rattle.bits.proofs.Choices.{neither}
 use Rattle.bits.specs.Field.{field}
 use Rattle.machine.specs.Sizes.{mutexCount}
 use Rattle.word_rules.proofs.Offering.{field-fine, control-stopped, control-going}
@@ -48,6 +50,12 @@ returns-2 c =
     rw (c .with-mutex .ensures, c .before .drop-if .ensures, c .before .before .before .before .before .mutex .ensures, ← fine .ensures)
     (rw h at (control-going true (fine .result) _ (a .blocks) (a .drops) (a .c) (a .t) (Sync (AtGetM mutex)) (b .b1 .ensures) (sym (q .before .stopped .ensures) ∙ q .if1 .left)))
 
+-- a mutex that is not open has a holder
+sub-by : tie.Need-sub-by
+sub-by c =
+    let holder = getD (c .before .before .before .before .before .before .before .before .args .c .mutexes) (c .before .before .before .mutex .result) 0 in
+    omega (arith, eqb-false holder 0 (neither (eqb holder 0) _ (sym (c .before .mutex-open .ensures) ∙ c .if2 .left) .0))
+
 returns-3 : tie.Need-returns-3
 returns-3 c =
     let q = c .before .before .before .before in
@@ -56,7 +64,7 @@ returns-3 c =
     let a = b .before .before .args in
     let mutex = field 0 16 (a .word) in
     let h : mutexOpen (getD (a .c .mutexes) mutex 0) (a .t) ≡ false = rw (c .before .before .before .mutex .ensures) at (sym (c .before .mutex-open .ensures) ∙ c .if2 .left) in
-    rw (← fine .ensures)
+    rw (c .before .before .before .mutex .ensures, ← fine .ensures)
     (rw h at (control-going true (fine .result) _ (a .blocks) (a .drops) (a .c) (a .t) (Sync (AtGetM mutex)) (b .b1 .ensures) (sym (q .before .stopped .ensures) ∙ q .if1 .left)))
 
 pub at-get-m-spec : {M : Type 1} → statement M
@@ -77,4 +85,6 @@ at-get-m-spec =
     (λ c. search needs)
     with-mutex-requires
     returns-2
+    (λ c. search needs)
+    sub-by
     returns-3)

@@ -1,18 +1,16 @@
-use Rattle.word_rules.specs.Waits.{stallHolds}
+use Rattle.word_rules.specs.Waits.{stallHeld}
 use borrow.Author.Needs.{needs}
-use Rattle.word_waits.proofs.stall_holds.Statement.{statement}
-use Rattle.word_waits.proofs.stall_holds.Tie as tie
+use Rattle.word_waits.proofs.stall_held.Statement.{statement}
+use Rattle.word_waits.proofs.stall_held.Tie as tie
 
 returns : tie.Need-returns
-unfolding stallHolds
+unfolding stallHeld
 returns c = cc
 
-pub stall-holds-spec : {M : Type 1} → statement M
-stall-holds-spec =
+pub stall-held-spec : {M : Type 1} → statement M
+stall-held-spec =
     tie.close
     (tie.spec
-    (λ c κs. search needs)
-    (λ c κs. search needs)
     (λ c κs. search needs)
     (λ c κs. search needs)
     (λ c κs. search needs)

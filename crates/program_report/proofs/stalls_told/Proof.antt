@@ -1,0 +1,34 @@
+use borrow.Author.Needs.{needs}
+use Rattle.program_report.proofs.stalls_told.Statement.{statement}
+use Rattle.program_report.proofs.stalls_told.Tie as tie
+
+returns : tie.Need-returns
+returns c = rw (c .enum-told .given .1) (c .before .before .no-stalls .ensures)
+
+returns-2 : tie.Need-returns-2
+returns-2 c = rw (c .enum-told2 .given .1)
+
+returns-3 : tie.Need-returns-3
+returns-3 c = rw (c .enum-told3 .given .1) (c .before .before .no-stalls .ensures)
+
+returns-4 : tie.Need-returns-4
+returns-4 c = rw (c .enum-told4 .given .1) (c .before .before .no-stalls .ensures)
+
+returns-5 : tie.Need-returns-5
+returns-5 c = rw (c .enum-told5 .given .1) (c .before .before .no-stalls .ensures)
+
+pub stalls-told-spec : {M : Type 1} → statement M
+stalls-told-spec =
+    tie.close
+    (tie.spec
+    (λ c κs. search needs)
+    (λ c. search needs)
+    (λ c. search needs)
+    (λ c. search needs)
+    (λ c. search needs)
+    (λ c. search needs)
+    returns
+    returns-2
+    returns-3
+    returns-4
+    returns-5)
