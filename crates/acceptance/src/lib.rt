@@ -1,4 +1,6 @@
 // What the customer is promised and no single function can state, in one place.
+#![tactic(auto)]
+
 ghost use Rattle.step_rules.specs.Kept.{KeepsFormed};
 ghost use Rattle.step_rules.specs.Unchanged.{Unchanged};
 ghost use Rattle.step_rules.specs.Causes.{CausesHold};

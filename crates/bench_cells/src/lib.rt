@@ -1,4 +1,6 @@
 // Loops over the cells of a row.
+#![tactic(auto)]
+
 ghost use Rattle.std.specs.Prelude.{◌≡◌, map, ◌+◌, ◌≤◌, ◌<◌, length};
 ghost use Rattle.bits.specs.Overwrite.{over};
 ghost use Rattle.bench_cells.specs.Cells.{half_at, wide_cells};

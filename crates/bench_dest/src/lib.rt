@@ -1,4 +1,6 @@
 // Whole Dest rows, in the 16-bit and in the 32-bit view. The bench names the Config bank whose flags set the maps.
+#![tactic(auto)]
+
 mod places;
 mod stored;
 

@@ -13,21 +13,21 @@ use machine::refusal::Refusal;
 use machine::sizes::{BANK_WORDS, CONFIG_WORDS, DEST_CELLS, DEST_ROWS};
 
 // The flags of the bank that the bench names.
-#[derive(Drop)]
+#[derive(Clone, Copy)]
 enum Setting {
     Set(Flags),
     Refused(Refusal),
 }
 
 // The storage row of a 16-bit view row.
-#[derive(Drop)]
+#[derive(Clone, Copy)]
 pub enum Place16 {
     At16(StorageRow),
     Refused(Refusal),
 }
 
 // The storage rows of a 32-bit view row's halves.
-#[derive(Drop)]
+#[derive(Clone, Copy)]
 pub enum Place32 {
     At32 { high: StorageRow, low: StorageRow },
     Refused(Refusal),

@@ -1,4 +1,6 @@
 // The GPRs: 3 threads x 64.
+#![tactic(auto)]
+
 ghost use Rattle.std.specs.Prelude.{◌≡◌};
 ghost use Rattle.machine.specs.Units.{gpr, gpr_place};
 ghost use Rattle.machine.specs.Answers.{accepted, told, call};
@@ -10,14 +12,14 @@ use machine::refusal::Refusal;
 use machine::sizes::{GPRS, THREAD_GPRS, THREADS};
 use machine::units::{GprNumber, gpr_place};
 
-#[derive(Drop)]
+#[derive(Clone, Copy)]
 pub enum GprRead {
     Value(u32),
     Refused(Refusal),
 }
 
 // Where a GPR stands among the 192 lent, or why the call is refused.
-#[derive(Drop)]
+#[derive(Clone, Copy)]
 enum GprFound {
     GprAt(usize),
     Refused(Refusal),

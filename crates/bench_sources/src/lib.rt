@@ -1,4 +1,6 @@
 // Rows of the source files: file 0 is SrcA, 1 is SrcB.
+#![tactic(auto)]
+
 ghost use Rattle.std.specs.Prelude.{◌≡◌, true, length};
 ghost use Rattle.machine.specs.Answers.{told, call};
 ghost use Rattle.bench_sources.specs.Sources.{sources, sources_sized, sources_formed, row_in_range, source_check, write_source_row_of, can_show, shown_row, shown_at};

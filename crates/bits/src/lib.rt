@@ -1,4 +1,6 @@
 // Tests and numbers that every crate above uses; the laws of bits, bytes and lists are in proofs/.
+#![tactic(auto)]
+
 pub mod copy;
 
 ghost use Rattle.std.specs.Prelude.{◌≡◌, ◌&&◌, ◌||◌};

@@ -5,7 +5,7 @@ ghost use Rattle.dest.specs.Flags.{flags_of};
 // The Config word of a bank that holds them.
 pub const FLAG_WORD: usize = 255;
 
-#[derive(Drop)]
+#[derive(Clone, Copy)]
 pub struct Flags {
     pub remap: bool,
     // of the 32-bit view only

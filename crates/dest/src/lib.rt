@@ -1,4 +1,6 @@
 // Where a row of one of Dest's two views lies in storage (document 01, "Dest maps").
+#![tactic(auto)]
+
 ghost use Rattle.dest.specs.Examples.{DestExamples};
 ghost use Rattle.dest.specs.Cover.{ViewsCover};
 

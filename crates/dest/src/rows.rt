@@ -3,26 +3,26 @@ ghost use Rattle.std.specs.Prelude.{◌≡◌};
 ghost use Rattle.dest.specs.Rows.{row16_of, row32_of};
 
 // A row of the 16-bit view. Only this crate can set its number, so that elsewhere a row of a view is within it: it comes of `new`.
-#[derive(Drop)]
+#[derive(Clone, Copy)]
 pub struct View16Row(pub(crate) u16);
 
 // A row of the 32-bit view, by `new` too.
-#[derive(Drop)]
+#[derive(Clone, Copy)]
 pub struct View32Row(pub(crate) u16);
 
 // A row of storage, 0 to 1,023.
-#[derive(Drop)]
+#[derive(Clone, Copy)]
 pub struct StorageRow(pub u16);
 
 // A number from outside as a row of the 16-bit view, if it is one.
-#[derive(Drop)]
+#[derive(Clone, Copy)]
 pub enum Row16 {
     In16(View16Row),
     Past16,
 }
 
 // The same of the 32-bit view.
-#[derive(Drop)]
+#[derive(Clone, Copy)]
 pub enum Row32 {
     In32(View32Row),
     Past32,

@@ -1,4 +1,6 @@
 // Reads a kernel from standard input, runs it on a fresh machine and prints how it ended.
+#![tactic(auto)]
+
 ghost use Rattle.std.specs.Prelude.{◌≡◌, ◌≤◌, length};
 ghost use Rattle.program_report.specs.Lines.{lines_room};
 ghost use Rattle.program_emulate.specs.Emulation.{emulate_reads};

@@ -31,13 +31,13 @@ const NINES_BYTES: u32 = 4 * NINES_MOST as u32;
 const WORDS_BYTES: u32 = 4 * WORDS_MOST as u32;
 
 // How many words records 37 and 39 have.
-#[derive(Drop)]
+#[derive(Clone, Copy)]
 pub(crate) struct Sizes {
     pub(crate) nine: usize,
     pub(crate) words: usize,
 }
 
-#[derive(Drop)]
+#[derive(Clone, Copy)]
 pub(crate) enum InputRead {
     // a piece
     Sound(Sizes),

@@ -1,5 +1,7 @@
 // Reads nine words, what an expander carries, and a piece of a stream with a room or a close from standard input, expands the piece or
 // closes the stream, and prints the words and what is carried on. README.md has the records.
+#![tactic(auto)]
+
 ghost use Rattle.std.specs.Prelude.{◌≡◌, ◌+◌, ◌*◌, ◌≤◌, length};
 ghost use Rattle.expander_rules.specs.Call.{answered};
 ghost use Rattle.expander_rules.specs.Sizes.{needed_most};

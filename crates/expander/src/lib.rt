@@ -1,5 +1,7 @@
 // The expander: a stream with MOP, MOP_CFG and REPLAY words becomes the words that they stand for (document 01, "Expander"; document
 // 02, K1), in one call or in pieces (K2).
+#![tactic(auto)]
+
 ghost use Rattle.std.specs.Prelude.{false, [], ◌≡◌, min, ◌≤◌, length};
 ghost use Rattle.machine.specs.Answers.{accepted};
 ghost use Rattle.expander_rules.specs.declared.Answer.TheVariants.{Refused};

@@ -87,7 +87,7 @@ fn pass_emission(
 }
 
 // The high mask and the load that a stream hands on.
-#[derive(Drop)]
+#[derive(Clone, Copy)]
 pub(crate) struct HandedOn {
     pub(crate) high: u16,
     pub(crate) load: Load,

@@ -104,7 +104,7 @@ fn survey_emission(
 }
 
 // Whether the stream is sound, and how many words it gives, where it is.
-#[derive(Drop)]
+#[derive(Clone, Copy)]
 pub(crate) struct Seen {
     pub(crate) access: Access,
     pub(crate) count: usize,

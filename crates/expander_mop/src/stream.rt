@@ -11,7 +11,7 @@ use expander_templates::template_0::put_template_0;
 use expander_templates::template_1::put_template_1;
 
 // The place past what was written, and the high mask.
-#[derive(Drop)]
+#[derive(Clone, Copy)]
 pub struct Put {
     pub at: usize,
     pub high: u16,

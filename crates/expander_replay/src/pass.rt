@@ -14,7 +14,7 @@ use expander_templates::count::lesser;
 use expander_templates::put::put_word;
 
 // The place past what was written, and the load.
-#[derive(Drop)]
+#[derive(Clone, Copy)]
 pub struct Passed {
     pub at: usize,
     pub load: Load,

@@ -11,7 +11,7 @@ use expander_rules::Load;
 use expander_templates::count::{cap, lesser};
 
 // Whether a bad REPLAY is obeyed; the words written out so far, or one past the limit where they pass it; the load.
-#[derive(Drop)]
+#[derive(Clone, Copy)]
 pub struct Survey {
     pub bad: bool,
     pub count: usize,

@@ -1,5 +1,7 @@
 // What the expander is (document 01, "Expander"; document 02, K1 and K2): its definitions, the laws that the code cites, and what holds of all
 // calls.
+#![tactic(auto)]
+
 ghost use Rattle.expander_rules.specs.Promises.{LoadsPlayBack, SlotsKept, PlainWords, CutAnywhere, JoinedPieces, RefusedPieces, CarriesFormed, EmptyLoads, ExpanderExamples, Stages, PlainStreams, SlotsHandedBack, FreshExpander};
 
 use crate::sizes::SLOTS;
@@ -9,28 +11,28 @@ pub mod sizes;
 
 // A load: the words to come that slots take. None, or the slot for the next word, how many words are to come, and whether they are
 // written out too.
-#[derive(Drop)]
+#[derive(Clone, Copy)]
 pub enum Load {
     NoLoad,
     Taking { next: u32, left: u32, shown: bool },
 }
 
 // What a thread's expander carries from one piece of its stream to the next: the high mask, and slots and load of the replay stage.
-#[derive(Drop)]
+#[derive(Clone, Copy)]
 pub struct Carried {
     pub high_mask: u16,
     pub slots: [u32; SLOTS],
     pub load: Load,
 }
 
-#[derive(Drop)]
+#[derive(Clone, Copy)]
 pub enum Answer {
     // how many words were written
     Done(usize),
     Refused(Refusal),
 }
 
-#[derive(Drop)]
+#[derive(Clone, Copy)]
 pub struct Expanded {
     pub answer: Answer,
     pub carried: Carried,

@@ -1,4 +1,6 @@
 // The two templates of a MOP, counted, and written out word by word (document 01, "Expander").
+#![tactic(auto)]
+
 pub mod count;
 pub mod put;
 pub mod template_0;

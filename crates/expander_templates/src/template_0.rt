@@ -7,7 +7,7 @@ ghost use Rattle.expander_rules.specs.Templates.{rounds, words_if, group, mask_g
 use crate::put::{put_pair, put_word};
 
 // The words of a round: the first, three more, and the last.
-#[derive(Drop)]
+#[derive(Clone, Copy)]
 struct Group {
     first: u32,
     a: u32,

@@ -1,4 +1,6 @@
 // Byte formats: numbers of one to four bytes, runs of them, and the check of each.
+#![tactic(auto)]
+
 pub mod check;
 pub mod number;
 pub mod run;

@@ -1,4 +1,6 @@
 // Saved images (document 01, "Saved image"): save, load, and what the two promise together.
+#![tactic(auto)]
+
 ghost use Rattle.std.specs.Prelude.{◌≡◌};
 ghost use Rattle.machine.specs.Machine.{machine};
 ghost use Rattle.image.specs.Calls.{told_load, save_call, save_of, load_call, load_check, load_of};
@@ -12,21 +14,21 @@ use machine::refusal::Refusal;
 use machine::sizes::CONFIG_WORDS;
 
 // What comes of saving.
-#[derive(Drop)]
+#[derive(Clone, Copy)]
 pub enum Saved {
     Written,
     Refused(Refusal),
 }
 
 // What comes of loading.
-#[derive(Drop)]
+#[derive(Clone, Copy)]
 pub enum LoadAnswer {
     Taken,
     Refused(Refusal),
 }
 
 // The answer, and the control part: the image's, or the one handed in.
-#[derive(Drop)]
+#[derive(Clone, Copy)]
 pub struct Loaded {
     pub answer: LoadAnswer,
     pub control: Control,

@@ -1,4 +1,6 @@
 // The image's first record read and written: ThreadConfig and the control part.
+#![tactic(auto)]
+
 mod waits;
 
 ghost use Rattle.std.specs.Prelude.{◌≡◌, ◌+◌, ◌≤◌, length, drop};

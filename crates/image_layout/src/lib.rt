@@ -1,4 +1,6 @@
 // Where the parts of a saved image stand (document 01, "Saved image"), each after the one before. A record begins with its head.
+#![tactic(auto)]
+
 use format::HEAD_BYTES;
 use machine::sizes::{
     BANK_OWNERS, BANK_POINTERS, CONFIG_WORDS, DEST_CELLS, DEST_ROWS, GPRS, MUTEXES, SEMAPHORES,

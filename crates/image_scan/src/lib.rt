@@ -1,4 +1,6 @@
 // How far an image is good, and whether it is sound: bytes alone, without a machine, and for any kind and size of Config's record.
+#![tactic(auto)]
+
 ghost use Rattle.std.specs.Prelude.{◌≡◌, ◌≤◌};
 ghost use Rattle.format.specs.Places.{place_most};
 ghost use Rattle.format.specs.Format.{accepts};
@@ -17,7 +19,7 @@ const DEST_BYTES: usize = SRC_A_AT - DEST_AT;
 const PAST_CONFIG: usize = IMAGE_BYTES - DEST_AT;
 
 // The offset of the first field missing, cut or out of range, or the image's size; and whether all is there, in range, and no more.
-#[derive(Drop)]
+#[derive(Clone, Copy)]
 pub struct Scanned {
     pub good: usize,
     pub sound: bool,

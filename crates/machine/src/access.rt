@@ -5,7 +5,7 @@ ghost use Rattle.machine.specs.Answers.{told, refusal};
 use crate::refusal::Refusal;
 
 // It did what was asked, or it was refused and wrote nothing.
-#[derive(Drop)]
+#[derive(Clone, Copy)]
 pub enum Access {
     Granted,
     Refused(Refusal),

@@ -6,7 +6,7 @@ ghost use Rattle.machine.specs.Control.{thread_at, with_thread};
 use crate::sizes::{BANK_OWNERS, BANK_POINTERS, MUTEXES, SEMAPHORES};
 
 // A thread's wait: none, a stall wait, or a semaphore wait. The masks are the fields of STALLWAIT and SEMWAIT.
-#[derive(Drop)]
+#[derive(Clone, Copy)]
 pub enum Wait {
     Clear,
     OnStall { block: u16, conditions: u32 },
@@ -14,18 +14,18 @@ pub enum Wait {
 }
 
 // A thread's own part of the control part.
-#[derive(Drop)]
+#[derive(Clone, Copy)]
 pub struct Thread {
     pub wait: Wait,
 }
 
-#[derive(Drop)]
+#[derive(Clone, Copy)]
 pub struct Semaphore {
     pub value: u8,
     pub maximum: u8,
 }
 
-#[derive(Drop)]
+#[derive(Clone, Copy)]
 pub struct Control {
     pub t0: Thread,
     pub t1: Thread,

@@ -3,7 +3,7 @@ ghost use Rattle.std.specs.Prelude.{◌≡◌};
 ghost use Rattle.machine.specs.Numbers.{number_of, stall_number_of, stall_cause_of};
 
 // Why a call or a word is refused.
-#[derive(Drop)]
+#[derive(Clone, Copy)]
 pub enum Refusal {
     BadThread,
     BadWord,
@@ -22,7 +22,7 @@ pub enum Refusal {
 
 // Why a word is stalled, with the cause that is told of it (document 02, K3): what the wait is held by, the thread that holds the
 // mutex, or the bank.
-#[derive(Drop)]
+#[derive(Clone, Copy)]
 pub enum StallCause {
     WaitHolds(u32),
     MutexHeld(u32),
@@ -30,7 +30,7 @@ pub enum StallCause {
 }
 
 // What came of a turn: no word was there, or the word passed, was stalled or was refused.
-#[derive(Drop)]
+#[derive(Clone, Copy)]
 pub enum Outcome {
     Idle,
     Passed,

@@ -6,11 +6,11 @@ ghost use Rattle.machine.specs.Units.{gpr_of_half, is_high_half, gpr_place};
 use crate::sizes::THREAD_GPRS;
 
 // A thread's GPR number, 0 to 63.
-#[derive(Drop)]
+#[derive(Clone, Copy)]
 pub struct GprNumber(pub u8);
 
 // A half-register number, 0 to 127: the low half of GPR n is 2n, its high half 2n + 1.
-#[derive(Drop)]
+#[derive(Clone, Copy)]
 pub struct HalfRegister(pub u8);
 
 impl HalfRegister {

@@ -1,4 +1,6 @@
 // The checks of a machine, in proved code: refusals 4 and 10 of every entry that is lent one.
+#![tactic(auto)]
+
 pub mod control;
 
 ghost use Rattle.std.specs.Prelude.{◌≡◌};

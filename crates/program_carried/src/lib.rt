@@ -1,4 +1,6 @@
 // Record 38, what an expander carries: the high mask, the slots and the load, as bytes.
+#![tactic(auto)]
+
 ghost use Rattle.std.specs.Prelude.{◌≡◌, ◌+◌, ◌≤◌, eqb, length, drop};
 ghost use Rattle.bits.specs.Overwrite.{Wrote};
 ghost use Rattle.program_carried.specs.CarriedFormat.{load_bytes, carried_bytes, record_bytes, load_numbers, load_from, load_format, carried_format, record_format, CarriedRecords};

@@ -1,4 +1,6 @@
 // The program `emulate`, from its input's bytes to its output's.
+#![tactic(auto)]
+
 ghost use Rattle.std.specs.Prelude.{◌≡◌, ◌≤◌, length};
 ghost use Rattle.bits.specs.Overwrite.{Wrote};
 ghost use Rattle.run_order.specs.Cursor.{streams};
@@ -22,7 +24,7 @@ use whole_machine::runs::run_whole;
 pub const EMULATE_READS: usize = SCRIPT_BYTES + 1;
 
 // What is told of a run.
-#[derive(Drop)]
+#[derive(Clone, Copy)]
 struct Outline {
     answer: Ending,
     turns: u32,

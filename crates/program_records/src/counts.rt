@@ -13,21 +13,21 @@ use format::HEAD_BYTES;
 const HEADS: usize = 3 * HEAD_BYTES;
 
 // A record of words: how many it has.
-#[derive(Drop)]
+#[derive(Clone, Copy)]
 pub enum WordsRecord {
     Words(usize),
     NoWords,
 }
 
 // How many words each thread has.
-#[derive(Drop)]
+#[derive(Clone, Copy)]
 pub struct Counts {
     pub n0: usize,
     pub n1: usize,
     pub n2: usize,
 }
 
-#[derive(Drop)]
+#[derive(Clone, Copy)]
 pub enum CountsRead {
     Counted(Counts),
     NotCounted(usize),

@@ -21,14 +21,14 @@ const AT_2: usize = HEAD_BYTES + 8;
 const NEXT: usize = HEAD_BYTES + 12;
 
 // The record of the budget.
-#[derive(Drop)]
+#[derive(Clone, Copy)]
 pub enum BudgetRecord {
     Budget(u32),
     NoBudget,
 }
 
 // The record of the cursor.
-#[derive(Drop)]
+#[derive(Clone, Copy)]
 pub enum CursorRecord {
     Place(Cursor),
     NoPlace,

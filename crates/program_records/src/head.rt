@@ -17,7 +17,7 @@ pub(crate) const BUDGET: u32 = 35;
 pub(crate) const CURSOR: u32 = 36;
 
 // How many bytes a record's body has.
-#[derive(Drop)]
+#[derive(Clone, Copy)]
 pub enum BodyRead {
     Body(usize),
     NoBody,

@@ -1,5 +1,7 @@
 // The records of the programs' inputs (document 01, "Program and cases"): what an input holds, or which record is the first
 // bad one and where.
+#![tactic(auto)]
+
 pub mod counts;
 pub mod fixed;
 pub mod head;

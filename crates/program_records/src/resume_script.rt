@@ -20,14 +20,14 @@ pub const RESUME_SCRIPT_BYTES: usize = 3 * (HEAD_BYTES + STREAM_BYTES as usize)
     + CURSOR_BYTES;
 
 // What sound records hold. The budget and the cursor are any numbers.
-#[derive(Drop)]
+#[derive(Clone, Copy)]
 pub struct ResumeScript {
     pub counts: Counts,
     pub budget: u32,
     pub cursor: Cursor,
 }
 
-#[derive(Drop)]
+#[derive(Clone, Copy)]
 pub enum ResumeRead {
     Whole(ResumeScript),
     Faulty(usize),

@@ -20,13 +20,13 @@ const BODY_BYTES: u32 = SCRIPT_WORDS as u32 * 4;
 pub const SCRIPT_BYTES: usize = 3 * (HEAD_BYTES + BODY_BYTES as usize) + BUDGET_BYTES;
 
 // What a sound input holds.
-#[derive(Drop)]
+#[derive(Clone, Copy)]
 pub struct Script {
     pub counts: Counts,
     pub budget: u32,
 }
 
-#[derive(Drop)]
+#[derive(Clone, Copy)]
 pub enum ScriptRead {
     Sound(Script),
     BadAt(usize),

@@ -1,5 +1,7 @@
 // The lines that the programs print, made in a lent buffer. Each function answers where the next byte goes.
 // All are internal: there is room (no line is over 100 bytes).
+#![tactic(auto)]
+
 ghost use Rattle.std.specs.Prelude.{◌≡◌, ◌+◌, ◌≤◌, length};
 ghost use Rattle.bits.specs.Overwrite.{Wrote};
 ghost use Rattle.run_order.specs.Ending.{told_ending};

@@ -1,5 +1,7 @@
 // The program `resume`, from its input's bytes to its output's: an image, streams, a budget and a cursor in; lines and the
 // image after the run out.
+#![tactic(auto)]
+
 mod lines;
 mod whole;
 

@@ -1,4 +1,6 @@
 // Reads an image and what is to run on it from standard input, runs it and prints how it ended and the image after it.
+#![tactic(auto)]
+
 ghost use Rattle.std.specs.Prelude.{◌≡◌, ◌≤◌, length};
 ghost use Rattle.program_resume.specs.Resume.{resume_reads, resume_room};
 

@@ -15,7 +15,7 @@ use run_order::stalls::{StallPairs, no_pairs, pairs_after};
 use run_turn::turn;
 
 // What `Ran` says, with the last stalls as the loop keeps them.
-#[derive(Drop)]
+#[derive(Clone, Copy)]
 pub struct Course {
     pub answer: Ending,
     pub turns: u32,

@@ -1,4 +1,6 @@
 // Three streams of words on one machine: a cursor, a budget of turns, and how it ends (document 01, "A run").
+#![tactic(auto)]
+
 mod checks;
 mod course;
 
@@ -20,7 +22,7 @@ use run_order::stalls::{LastStalls, last_stalls, no_stalls};
 
 // How a run ended, the turns it took, the control part and cursor that it leaves, and each thread's last stall. The rest of the machine
 // is written where it is lent.
-#[derive(Drop)]
+#[derive(Clone, Copy)]
 pub struct Ran {
     pub answer: Ending,
     pub turns: u32,

@@ -7,7 +7,7 @@ ghost use Rattle.run_order.specs.Cursor.{following, onward_of, past_of, moved_of
 use machine::refusal::Outcome;
 
 // A position in each stream, and the thread whose turn is next.
-#[derive(Drop)]
+#[derive(Clone, Copy)]
 pub struct Cursor {
     pub at0: usize,
     pub at1: usize,
@@ -16,7 +16,7 @@ pub struct Cursor {
 }
 
 // What a stream has at a position.
-#[derive(Drop)]
+#[derive(Clone, Copy)]
 pub enum Offered {
     NextWord(u32),
     NoWord,

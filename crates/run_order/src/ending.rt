@@ -8,7 +8,7 @@ use crate::cursor::{Cursor, used_up};
 use machine::refusal::{Outcome, Refusal};
 
 // WordRefused ends a run after its turns; CallRefused is a call that takes none.
-#[derive(Drop)]
+#[derive(Clone, Copy)]
 pub enum Ending {
     Finished,
     Stuck,
@@ -18,7 +18,7 @@ pub enum Ending {
 }
 
 // Whether something ends here, and how.
-#[derive(Drop)]
+#[derive(Clone, Copy)]
 pub enum Halt {
     Ends(Ending),
     GoesOn,

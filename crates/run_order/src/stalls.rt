@@ -7,14 +7,14 @@ ghost use Rattle.run_order.specs.Stalls.{unstalled, stalled_by, told_stall, told
 use machine::refusal::{Outcome, StallCause, stall_cause, stall_number};
 
 // A thread's last stall, if it has one.
-#[derive(Drop)]
+#[derive(Clone, Copy)]
 pub enum LastStall {
     Unstalled,
     StalledBy(StallCause),
 }
 
 // Of threads 0, 1 and 2.
-#[derive(Drop)]
+#[derive(Clone, Copy)]
 pub struct LastStalls {
     pub t0: LastStall,
     pub t1: LastStall,
@@ -22,13 +22,13 @@ pub struct LastStalls {
 }
 
 // The same as numbers, 0 and 0 where there is none. A run keeps these: an enum in an enum would go through memory in every turn.
-#[derive(Drop)]
+#[derive(Clone, Copy)]
 pub struct StallPair {
     pub number: u32,
     pub cause: u32,
 }
 
-#[derive(Drop)]
+#[derive(Clone, Copy)]
 pub struct StallPairs {
     pub t0: StallPair,
     pub t1: StallPair,

@@ -1,4 +1,6 @@
 // What a run is (document 01, "A run"): its definitions, the laws that the code cites, and what holds of all runs.
+#![tactic(auto)]
+
 ghost use Rattle.run_rules.specs.Isolation.{Isolated};
 ghost use Rattle.run_rules.specs.Chained.{Chained};
 ghost use Rattle.run_rules.specs.Observed.{Observed};

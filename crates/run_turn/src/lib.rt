@@ -1,4 +1,6 @@
 // One turn.
+#![tactic(auto)]
+
 ghost use Rattle.std.specs.Prelude.{◌≡◌, List, ℕ};
 ghost use Rattle.machine.specs.Machine.{machine};
 ghost use Rattle.machine.specs.Outcomes.{told_outcome};
@@ -12,7 +14,7 @@ use run_order::cursor::{Cursor, Offered, moved, next_word, onward};
 use step_offer::offer;
 
 // What came of a turn, and the control part and cursor after it.
-#[derive(Drop)]
+#[derive(Clone, Copy)]
 pub struct Turned {
     pub outcome: Outcome,
     pub control: Control,

@@ -1,4 +1,6 @@
 // One word on the whole machine.
+#![tactic(auto)]
+
 ghost use Rattle.std.specs.Prelude.{◌≡◌};
 ghost use Rattle.machine.specs.Machine.{machine};
 ghost use Rattle.machine.specs.Answers.{told};

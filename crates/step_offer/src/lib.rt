@@ -1,4 +1,6 @@
 // A word offered to a machine that is known to be well formed.
+#![tactic(auto)]
+
 mod store_words;
 
 ghost use Rattle.std.specs.Prelude.{◌≡◌, true, List, ℕ, ◌<◌, length};

@@ -1,4 +1,6 @@
 // What one word does to the whole machine: its definitions, and what holds of all words.
+#![tactic(auto)]
+
 ghost use Rattle.step_rules.specs.Alike.{OffersAlike};
 ghost use Rattle.step_rules.specs.Kept.{KeepsFormed};
 ghost use Rattle.step_rules.specs.Unchanged.{Unchanged};

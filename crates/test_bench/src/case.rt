@@ -6,7 +6,7 @@ const WORDS: usize = 11;
 
 pub(crate) const BYTES: usize = 4 * WORDS;
 
-#[derive(Drop)]
+#[derive(Clone, Copy)]
 pub(crate) struct Case {
     pub(crate) call: u32,
     // how long each lent part is, two bits each: see `lengths::lent`

@@ -1,5 +1,7 @@
 // Calls the bench on the cases of standard input and writes a line for each: the answer, and a checksum of all that was lent to
 // be written. oracle/cases/cases_bench.py makes the cases and the lines that are expected.
+#![tactic(auto)]
+
 mod calls;
 mod case;
 mod lengths;

@@ -1,5 +1,7 @@
 // Decodes the words of standard input, 4 bytes each, and prints a line for each, for comparison with the oracle: the word's name
 // and its fields from the highest bits down, or `refused N`. In front of a second operand stands whether it is a register.
+#![tactic(auto)]
+
 mod names;
 
 use format::number::read;

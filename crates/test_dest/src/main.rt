@@ -1,5 +1,7 @@
 // Prints where each row of both views lies, in every setting, for comparison with the oracle. A line is the view's width,
 // the flags that are on, the row, and its storage row or rows: `32 R- 8 64 72`.
+#![tactic(auto)]
+
 use dest::flags::{Flags, flags_of};
 use dest::maps;
 use dest::rows::{Row16, Row32, StorageRow, View16Row, View32Row};

@@ -1,5 +1,7 @@
 // Runs `emulate` on many inputs: each is its length, 4 bytes little-endian (below 65,536), and its bytes.
 // oracle/cases/cases_emulate.py makes them and the output that is expected.
+#![tactic(auto)]
+
 ghost use Rattle.std.specs.Prelude.{◌≤◌};
 
 use format::number::read_half;

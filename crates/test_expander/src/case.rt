@@ -5,7 +5,7 @@ use format::number::read;
 
 pub(crate) const BYTES: usize = 48;
 
-#[derive(Drop)]
+#[derive(Clone, Copy)]
 pub(crate) struct Case {
     pub(crate) seed: u32,
     pub(crate) high: u16,

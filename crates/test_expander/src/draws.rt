@@ -16,7 +16,7 @@ pub(crate) fn fill(words: &mut [u32], state: u32) -> u32 {
 }
 
 // Of sixteen kinds those below `below` are REPLAY words; their lengths may be 0 or over 32 where they are odd.
-#[derive(Drop)]
+#[derive(Clone, Copy)]
 pub(crate) struct Replays {
     pub(crate) below: u32,
     pub(crate) odd: bool,
@@ -24,7 +24,7 @@ pub(crate) struct Replays {
 
 // Of sixteen kinds those below `mops0` are MOP words of template 0, then those below `mops1` of template 1, then those below
 // `configs` MOP_CFG words, then REPLAY words. `counts` is the most that template 0's count is.
-#[derive(Drop)]
+#[derive(Clone, Copy)]
 pub(crate) struct Mix {
     pub(crate) mops0: u32,
     pub(crate) mops1: u32,

@@ -15,7 +15,7 @@ fn bit(set: bool) -> u32 {
 }
 
 // A load's kind (0 for none), the next slot, the words to come, and whether they are shown.
-#[derive(Drop)]
+#[derive(Clone, Copy)]
 struct Numbers {
     kind: u32,
     next: u32,

@@ -1,6 +1,8 @@
 // Runs the expander on the cases of standard input and writes a line for each: the answer of one call, or what its pieces came to; the
 // high mask carried on, the slots' checksum and the load; the checksum of the whole output; and what a close then gives. Before them
 // it writes what a fresh expander carries. oracle/cases/cases_expander.py makes the cases and the lines that are expected.
+#![tactic(auto)]
+
 mod case;
 mod draws;
 mod lines;
@@ -25,7 +27,7 @@ fn make_nine(nine: &mut [u32], m0: u32, m1: u32, replays: Replays, state: u32) -
 }
 
 // The slots, and the state after their draws.
-#[derive(Drop)]
+#[derive(Clone, Copy)]
 struct Slots {
     slots: [u32; SLOTS],
     state: u32,

@@ -9,7 +9,7 @@ use test_machines::sums;
 use test_machines::sums::Sums;
 
 // What is carried, the place past what was written, how many pieces were accepted, and the checksum of all calls.
-#[derive(Drop)]
+#[derive(Clone, Copy)]
 pub(crate) struct Fed {
     pub(crate) carried: Carried,
     pub(crate) at: usize,

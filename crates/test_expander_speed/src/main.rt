@@ -1,5 +1,7 @@
 // Expands a stream as often as a job says, so that benches/run can time it, as `test_speed` does the other calls. Standard input is
 // jobs one after the other. A line is what the last call answered, and a checksum.
+#![tactic(auto)]
+
 mod expansions;
 
 use test_jobs::{BYTES_MOST, Job, Line, WORDS_MOST, next_job, not_done, words_of, write_line};

@@ -11,7 +11,7 @@ use test_machines::parts::{Parts, digest_parts, make};
 use test_machines::sums;
 
 // A load's place, byte and image length.
-#[derive(Drop)]
+#[derive(Clone, Copy)]
 struct Damage {
     at: u32,
     byte: u32,

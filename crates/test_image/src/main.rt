@@ -4,6 +4,8 @@
 // output, the byte that stands there for this load, and how many bytes of the output are the image. A line is `w SUM`,
 // `r N SUM` of a save, with the sum of the whole output; `t DIGEST SUM`, `r N DIGEST` or `r 9 OFFSET DIGEST` of a load, with
 // the machine's digest after it and the sum of the image that is saved of it again.
+#![tactic(auto)]
+
 mod group;
 mod lent;
 mod lines;

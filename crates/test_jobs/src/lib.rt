@@ -1,11 +1,13 @@
 // A job as `test_speed` and `test_expander_speed` read it, and a line as they write it. benches/jobs.py says what each kind makes of
 // its numbers and words.
+#![tactic(auto)]
+
 ghost use Rattle.std.specs.Prelude.{◌≡◌, ◌+◌};
 
 use format::number::read;
 use libc::{STDIN_FILENO, STDOUT_FILENO};
 
-#[derive(Drop)]
+#[derive(Clone, Copy)]
 pub struct Job {
     pub kind: u32,
     pub times: u32,
@@ -17,7 +19,7 @@ pub struct Job {
 }
 
 // What is printed of a job: its first two, three or four numbers; none where it was not done.
-#[derive(Drop)]
+#[derive(Clone, Copy)]
 pub struct Line {
     pub count: u32,
     pub first: u32,

@@ -5,7 +5,7 @@ use machine::control::{Control, Semaphore, Thread, Wait};
 use machine::sizes::{BANK_OWNERS, BANK_POINTERS, MUTEXES, SEMAPHORES};
 
 // A control part, and the state after its last draw.
-#[derive(Drop)]
+#[derive(Clone, Copy)]
 pub struct DrawnControl {
     pub control: Control,
     pub state: u32,

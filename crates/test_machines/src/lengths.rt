@@ -5,7 +5,7 @@ use crate::made::Made;
 use machine::sizes::{CONFIG_WORDS, DEST_CELLS, DEST_ROWS, GPRS, SETTINGS, SOURCE_CELLS};
 
 // How much is asked for of each part; there may be less.
-#[derive(Drop)]
+#[derive(Clone, Copy)]
 pub struct Lengths {
     pub settings: usize,
     pub gprs: usize,

@@ -8,7 +8,7 @@ use format::number::read;
 pub const MADE_BYTES: usize = 24;
 
 // The seed's machine, with a number of it set; and the part, 1 to 7 in the order that they are lent, that has a length of its own.
-#[derive(Drop)]
+#[derive(Clone, Copy)]
 pub struct Made {
     pub seed: u32,
     pub number: Number,

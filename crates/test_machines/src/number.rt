@@ -5,7 +5,7 @@ use machine::sizes::{BANK_OWNERS, BANK_POINTERS, MUTEXES, SEMAPHORES, SOURCE_CEL
 
 // Which number: 1 a mutex, 2 a semaphore, 3 an owner, 4 a pointer, 5 a stall wait, 6 a semaphore wait, 7 a cell of SrcA, 8 one of
 // SrcB, any other none; its place among those of its kind; and its value, of several fields the first in its lowest bits.
-#[derive(Drop)]
+#[derive(Clone, Copy)]
 pub struct Number {
     pub kind: u32,
     pub place: u32,

@@ -1,7 +1,7 @@
 // Adler-32 (RFC 1950) over numbers as little-endian bytes. The bytes of a number are added in one go, with one remainder a sum.
 
 // The two sums: of the bytes, and of the first sum after each byte.
-#[derive(Drop)]
+#[derive(Clone, Copy)]
 pub struct Sums {
     pub s1: u32,
     pub s2: u32,

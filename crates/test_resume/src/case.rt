@@ -15,7 +15,7 @@ const CASE_BYTES: usize = 28;
 
 // An input is the image of the seed's machine, then `before` bytes that follow the case, `fill` bytes 2 (four of them are a
 // NOP), and `after` bytes more that follow it; of it all, the byte at `place` is set, and the first `keep` bytes are kept.
-#[derive(Drop)]
+#[derive(Clone, Copy)]
 struct Case {
     seed: u32,
     place: u32,

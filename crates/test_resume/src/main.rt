@@ -1,6 +1,8 @@
 // Runs `resume` on inputs whose image is of a seed's machine, and prints what it wrote: the lines as they are, and the
 // Adler-32 of the whole output in place of the image. oracle/cases/cases_resume.py makes the cases and what is expected.
 // Standard input is cases: seven numbers of 4 bytes (`case.rt`), and the bytes that they say.
+#![tactic(auto)]
+
 mod case;
 mod lines;
 

@@ -14,7 +14,7 @@ use test_machines::made::{MADE_BYTES, Made, read_made};
 use test_machines::parts::{ROOM, make};
 
 // What a case says beside its streams: how the machine is made and lent, the budget, the cursor.
-#[derive(Drop)]
+#[derive(Clone, Copy)]
 struct Case {
     made: Made,
     budget: u32,

@@ -12,7 +12,7 @@ pub(crate) const CASE_BYTES: usize = MADE_BYTES + 20;
 const STREAM_BYTES: usize = 12;
 
 // What a stream took: where the input goes on, and how many words it has.
-#[derive(Drop)]
+#[derive(Clone, Copy)]
 pub(crate) struct Taken {
     pub(crate) end: usize,
     pub(crate) words: usize,

@@ -4,6 +4,8 @@
 // `END turns N at N N N next N stalls S S S machine D`: how the run ended, with document 01's number where it was refused
 // (`rejected` is a refused call), its turns, the cursor, each thread's last stall (`NUMBER:CAUSE`, or `-` for none) and the
 // digest.
+#![tactic(auto)]
+
 mod cases;
 mod input;
 mod lines;

@@ -1,5 +1,7 @@
 // Makes one call as often as a job says, so that benches/run can time it beside plain Rust of the same rules. Standard input is
 // jobs one after the other. A line is the job's kind, what the last call answered, and a checksum.
+#![tactic(auto)]
+
 mod images;
 mod runs;
 

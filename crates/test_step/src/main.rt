@@ -3,6 +3,8 @@
 // `test_machines`), a count, and that many cases of a thread and a word. Within a group the machine goes on from case to case.
 // A line is `p D`, `s N C D` or `r N D`: passed, stalled or refused with document 01's number, a stall's cause (document 02, K3),
 // and the digest.
+#![tactic(auto)]
+
 mod cases;
 mod input;
 mod lines;

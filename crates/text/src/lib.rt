@@ -1,4 +1,6 @@
 // Bytes, runs of them, decimal numbers and words in hex digits written into a lent buffer. Each function answers where the next byte goes.
+#![tactic(auto)]
+
 ghost use Rattle.std.specs.Prelude.{◌≡◌, [], ◌∷◌, ◌+◌, ◌<◌, ◌≤◌, length};
 ghost use Rattle.bits.specs.Overwrite.{over, Wrote};
 ghost use Rattle.text.specs.Decimal.{digit_count, last_digits, digits_most, decimal};

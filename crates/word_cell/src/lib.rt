@@ -1,5 +1,7 @@
 // The words of the matrix unit that work on source cells and Dest's marks, offered: each is refused, stalled by its thread's wait or by the
 // owner of SrcB's bank, or does its work.
+#![tactic(auto)]
+
 mod face;
 pub mod fields;
 mod marks;

@@ -1,5 +1,7 @@
 // The words of the config unit, offered: each is refused, stalled by its thread's wait, or moves words between GPRs, Config
 // and the thread settings.
+#![tactic(auto)]
+
 pub mod fields;
 mod merge;
 mod moves;

@@ -1,5 +1,7 @@
 // The words that work on the control part, offered: the words of the sync unit, SETDVALID and CLEARDVALID. Nothing here is lent
 // a store.
+#![tactic(auto)]
+
 mod bank_words;
 mod banks;
 pub mod fields;

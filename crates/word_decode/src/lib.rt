@@ -1,5 +1,7 @@
 // From a word to its instruction, by the opcode (document 01, "Words of the base"). The rows of the table stand in its order; what one
 // part of it has not goes on to the next.
+#![tactic(auto)]
+
 ghost use Rattle.std.specs.Prelude.{◌≡◌, ◌++◌, false, eqb};
 ghost use Rattle.machine.specs.Answers.{accepted, provided};
 ghost use Rattle.word_rules.specs.ConfigWords.{rmw_cib_of};
@@ -14,7 +16,7 @@ use word_rules::instruction::{BankWord, CellWord, ConfigWord, Instruction, Scala
 use word_scalar::fields as scalar;
 
 // What a word says, or its refusal: 2 or 3.
-#[derive(Drop)]
+#[derive(Clone, Copy)]
 pub enum Decoded {
     Decodes(Instruction),
     Refused(Refusal),

@@ -2,14 +2,14 @@
 use machine::units::{GprNumber, HalfRegister};
 
 // The second operand of ADDDMAREG and MULDMAREG.
-#[derive(Drop)]
+#[derive(Clone, Copy)]
 pub enum Operand {
     Constant(u8),
     Register(GprNumber),
 }
 
 // A word of the scalar unit, block bit B5.
-#[derive(Drop)]
+#[derive(Clone, Copy)]
 pub enum ScalarWord {
     SetDmaReg {
         half: HalfRegister,
@@ -29,7 +29,7 @@ pub enum ScalarWord {
 }
 
 // A word of the sync unit, block bit B1.
-#[derive(Drop)]
+#[derive(Clone, Copy)]
 pub enum SyncWord {
     AtGetM { mutex: u16 },
     AtRelM { mutex: u16 },
@@ -41,7 +41,7 @@ pub enum SyncWord {
 }
 
 // A word of the config unit, block bit B7.
-#[derive(Drop)]
+#[derive(Clone, Copy)]
 pub enum ConfigWord {
     WrCfg {
         gpr: GprNumber,
@@ -65,7 +65,7 @@ pub enum ConfigWord {
 }
 
 // A word of the matrix unit, block bit B6, that works on source cells and Dest's marks.
-#[derive(Drop)]
+#[derive(Clone, Copy)]
 pub enum CellWord {
     TrnspSrcB,
     MovB2A { row_a: u8, four: bool, row_b: u8 },
@@ -73,7 +73,7 @@ pub enum CellWord {
 }
 
 // A word of the matrix unit, block bit B6, that works on bank owners and pointers.
-#[derive(Drop)]
+#[derive(Clone, Copy)]
 pub enum BankWord {
     ClearDValid {
         a: bool,
@@ -88,7 +88,7 @@ pub enum BankWord {
 }
 
 // In the order of the table.
-#[derive(Drop)]
+#[derive(Clone, Copy)]
 pub enum Instruction {
     Nop,
     Cell(CellWord),

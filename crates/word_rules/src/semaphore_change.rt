@@ -1,5 +1,5 @@
 // What SEMINIT, SEMPOST and SEMGET do to each semaphore of their mask.
-#[derive(Drop)]
+#[derive(Clone, Copy)]
 pub enum SemaphoreChange {
     Init { value: u8, maximum: u8 },
     Up,

@@ -2,7 +2,7 @@
 use machine::control::Control;
 use machine::refusal::Outcome;
 
-#[derive(Drop)]
+#[derive(Clone, Copy)]
 pub struct Stepped {
     pub outcome: Outcome,
     pub control: Control,

@@ -1,4 +1,6 @@
 // The words of the scalar unit, offered: each is refused, stalled by its thread's wait, or writes the thread's own GPRs.
+#![tactic(auto)]
+
 pub mod fields;
 mod registers;
 

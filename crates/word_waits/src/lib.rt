@@ -1,4 +1,6 @@
 // What a thread's wait makes of its words now. Nothing here is lent a store.
+#![tactic(auto)]
+
 ghost use Rattle.std.specs.Prelude.{◌≡◌, true, cond, not, ◌&&◌, ◌<◌};
 ghost use Rattle.bits.specs.Field.{low_bit};
 ghost use Rattle.machine.specs.Sizes.{thread_count};
@@ -124,7 +126,7 @@ fn semaphore_held(all: [Semaphore; SEMAPHORES], mask: u8, condition: u8) -> Held
 }
 
 // The block bits that a thread's wait stalls now, what it is held by, and whether it is lifted, so that a passing word drops it.
-#[derive(Drop)]
+#[derive(Clone, Copy)]
 pub struct Judged {
     pub blocks: u16,
     pub cause: u32,

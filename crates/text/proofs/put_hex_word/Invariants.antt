@@ -1,0 +1,16 @@
+use Rattle.text.proofs.Digits.{hex_long, in_next, in_none}
+use Rattle.text.specs.Digits.{last_digits_in}
+use Rattle.text.specs.Hex.{hex_digit, hex_digits, hex_word}
+use Rattle.bits.specs.Overwrite.{over}
+use lib.ListN.{length, length-set}
+use native.Mathlib.Omega.{arith}
+use mathlib.Core.Path.{◌≡◌, refl, sym, ap, ◌∙◌}
+use Prim.Native.Nat.{ℕ, ◌+◌, ◌≤◌}
+use Rattle.text.proofs.put_hex_word.Given as goal
+
+abbrev pub invariant-loop-left : goal.invariant-loop-left
+invariant-loop-left l =
+    (l.left ≤ hex_digits) × (length l.out ≡ length l.initial.out) × (over l.out l.at (last_digits_in 16 hex_digit l.left l.m) ≡ over l.initial.out l.at (hex_word l.w))
+
+abbrev pub decreases-loop-left : goal.decreases-loop-left
+decreases-loop-left l = l.left
