@@ -1,0 +1,10 @@
+use Rattle.dest.specs.Rows.{rows16}
+use borrow.Author.Tests.{lt-ltb, le-ltb}
+use Rattle.std.proofs.Common.{rules}
+use Rattle.dest.proofs.rows.View16Row.new.Goals as goal
+
+pub returns-then-n : goal.returns-then-n
+returns-then-n c = simp (lt-ltb c.args.n rows16 (search rules))
+
+pub returns : goal.returns
+returns c = simp (le-ltb c.args.n rows16 (search rules))

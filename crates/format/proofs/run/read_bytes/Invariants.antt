@@ -1,0 +1,14 @@
+use Rattle.format.proofs.Joins.{le_byte}
+use Prim.Native.Nat.{◌-◌}
+use mathlib.Core.Path.{refl}
+use native.Mathlib.Omega.{arith}
+use lib.ListN.{length}
+use Rattle.bits.specs.Bytes.{le}
+use Rattle.format.proofs.Runs.{Reading, reading_starts, reading_there, reading_goes, reading_ends}
+use Rattle.format.proofs.run.read_bytes.Given as goal
+
+abbrev pub invariant-loop-i : goal.invariant-loop-i
+invariant-loop-i l = Reading (le 1) 1 l.s l.at (length l.initial.dst) l.dst l.p l.i
+
+abbrev pub decreases-loop-i : goal.decreases-loop-i
+decreases-loop-i l = length l.initial.dst - l.i
