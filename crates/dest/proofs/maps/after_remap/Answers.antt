@@ -1,4 +1,3 @@
-
 use Rattle.dest.proofs.maps.after_remap.Goals as goal
 
 pub returns-then-flags : goal.returns-then-flags

@@ -7,18 +7,11 @@ use lib.ListN.{drop}
 use native.Mathlib.Omega.{arith}
 use Rattle.format.proofs.check.any_fields.Goals as goal
 
-module _ (c : tie.After-rest) where
-  abbrev found : List ℕ
-  found = drop c.args.at c.args.s.now
-
-  bytes : Bytes found
-  bytes = bytes_drop c.args.at c.args.s.now (λ i. (c.type_inv.s i).fits)
-
 pub overflow_mul-result : goal.overflow_mul-result
-overflow_mul-result c = omega (arith, (any_some _ (omega arith) _ (found c) (bytes c) _ c.rest.ensures c.if-there-n.true).1)
+overflow_mul-result c = omega (arith, (any_some _ (omega arith) _ (drop c.args.at c.args.s.now) (bytes_drop c.args.at c.args.s.now (λ i. (c.type_inv.s i).fits)) _ c.rest.ensures c.if-there-n.true).1)
 
 pub returns-then-there-n : goal.returns-then-there-n
-returns-then-there-n c = any_some _ (omega arith) _ (found c) (bytes c) _ c.rest.ensures c.if-there-n.true
+returns-then-there-n c = any_some _ (omega arith) _ (drop c.args.at c.args.s.now) (bytes_drop c.args.at c.args.s.now (λ i. (c.type_inv.s i).fits)) _ c.rest.ensures c.if-there-n.true
 
 pub returns : goal.returns
-returns c = (any_all _ (omega arith) _ (found c) (bytes c) _ c.rest.ensures c.if-there-n.false, omega arith)
+returns c = (any_all _ (omega arith) _ (drop c.args.at c.args.s.now) (bytes_drop c.args.at c.args.s.now (λ i. (c.type_inv.s i).fits)) _ c.rest.ensures c.if-there-n.false, omega arith)

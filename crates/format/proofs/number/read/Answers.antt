@@ -4,13 +4,6 @@ use lib.ListN.{get_or}
 use Rattle.format.proofs.Joins.{le_byte, le_joined}
 use Rattle.format.proofs.number.read.Goals as goal
 
-module _ (c : tie.After-shared-slice-known3) where
-  abbrev third : ℕ
-  third = c.args.at + 2
-
-  byte : get_or c.args.s.now third 0 < 256
-  byte = omega (arith, c.type_inv.s third)
-
 pub overflow_cast-result : goal.overflow_cast-result
 overflow_cast-result c = omega (arith, c.type_inv.s c.args.at)
 
@@ -31,10 +24,10 @@ returns c =
     le_joined 2 a.w a.at a.s.now (omega arith) c.read_half-low.ensures c.read_half-high.ensures
 
 pub overflow_cast-high : goal.overflow_cast-high
-overflow_cast-high c = omega (arith, byte c)
+overflow_cast-high c = omega (arith, c.type_inv.s (c.args.at + 2))
 
 pub overflow_mul-result : goal.overflow_mul-result
-overflow_mul-result c = omega (arith, byte c)
+overflow_mul-result c = omega (arith, c.type_inv.s (c.args.at + 2))
 
 pub overflow_add-result : goal.overflow_add-result
-overflow_add-result c = omega (arith, byte c)
+overflow_add-result c = omega (arith, c.type_inv.s (c.args.at + 2))

@@ -6,9 +6,6 @@ use Rattle.format.proofs.Writes.{wrote_number, wrote_past_half}
 use Rattle.format.proofs.Joins.{enc_half, write_byte}
 use Rattle.format.proofs.number.write.Goals as goal
 
-abbrev low : tie.After-write-half2 → tie.After-write-half
-low c = c
-
 pub returns-then-w-eq1 : goal.returns-then-w-eq1
 returns-then-w-eq1 c =
     let a = c.args in
@@ -24,10 +21,10 @@ pub returns-then-w-eq3 : goal.returns-then-w-eq3
 returns-then-w-eq3 c =
     let a = c.args in
     let half = c.write_half in
-    let byte = write_byte half.new.0 (a.at + 2) (a.v / 65536) (omega (arith, half.auto.0)) in
+    let byte = write_byte half.new.out (a.at + 2) (a.v / 65536) (omega (arith, half.auto.out)) in
     wrote_past_half 1 a.at a.w a.v c.if-w-eq3.true (omega arith) half.ensures (wrote_number (a.at + 2) 1 (a.v / 65536) byte)
 
 pub returns : goal.returns
 returns c =
-    let a = (low c).args in
-    wrote_past_half 2 a.at a.w a.v (omega arith) (omega arith) (low c).write-half.ensures c.write_half-2.ensures
+    let a = c.args in
+    wrote_past_half 2 a.at a.w a.v (omega arith) (omega arith) c.write_half.ensures c.write_half-2.ensures

@@ -1,4 +1,3 @@
-
 use Rattle.machine.proofs.access.provided.Goals as goal
 
 pub returns : goal.returns

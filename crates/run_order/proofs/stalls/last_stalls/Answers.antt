@@ -1,4 +1,3 @@
-
 use Rattle.run_order.proofs.stalls.last_stalls.Goals as goal
 
 pub returns : goal.returns

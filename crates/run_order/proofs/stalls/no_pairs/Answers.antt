@@ -1,4 +1,3 @@
-
 use Rattle.run_order.proofs.stalls.no_pairs.Goals as goal
 
 pub returns : goal.returns

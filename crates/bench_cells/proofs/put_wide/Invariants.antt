@@ -1,0 +1,14 @@
+use Prim.Native.Nat.{◌-◌}
+use mathlib.Core.Path.{sym}
+use native.Mathlib.Omega.{arith}
+use lib.ListN.{length}
+use Rattle.bench_cells.specs.Cells.{wide_cell, wide_cells}
+use Rattle.bench_cells.proofs.Halves.{zip_long, zip_at}
+use Rattle.bench_cells.proofs.Writing.{Writing, writing_start, writing_next, writing_done}
+use Rattle.bench_cells.proofs.put_wide.Given as goal
+
+abbrev pub invariant-loop-i : goal.invariant-loop-i
+invariant-loop-i l = Writing l.initial.out 0 (wide_cells l.high l.low) l.out l.i
+
+abbrev pub decreases-loop-i : goal.decreases-loop-i
+decreases-loop-i l = length l.high - l.i
