@@ -1,10 +1,9 @@
 -- Laws of answers: what a refusal and what an acceptance say of the tests.
 use Prim.Native.Nat.{ℕ}
-use mathlib.Core.Bool.{Bool, true, false, not}
+use mathlib.Core.Bool.{Bool, true, false}
 use mathlib.Core.List.{List}
 use mathlib.Core.Path.{◌≡◌, refl, sym, ap, ◌∙◌}
 use native.Mathlib.Omega.{arith}
-use borrow.Author.Tests.{not-true, not-false}
 use Rattle.machine.specs.Answers.{Told, accepted, refused, provided, call, checked}
 
 -- what is accepted is not refused
@@ -12,11 +11,11 @@ pub refused_accepted : {A B : Type 0} {a : A} {n : ℕ} {vs : List ℕ} → acce
 refused_accepted e = let z : ◌≡◌ {A = ℕ} 0 1 = cc in absurd (omega arith)
 
 -- how a test came out, by the code's branch on its negation
-pub held : {r b : Bool} → r ≡ b → not r ≡ false → b ≡ true
-held {r} e h = sym e ∙ not-false r h
+pub held : {r b : Bool} → r ≡ b → r ≡ true → b ≡ true
+held e h = sym e ∙ h
 
-pub failed : {r b : Bool} → r ≡ b → not r ≡ true → b ≡ false
-failed {r} e h = sym e ∙ not-true r h
+pub failed : {r b : Bool} → r ≡ b → r ≡ false → b ≡ false
+failed e h = sym e ∙ h
 
 -- a first answer, and the rest where it accepts
 abbrev pub before : {A B : Type 0} → Told A → Told B → Told B

@@ -1,12 +1,12 @@
 -- A record of one size at a place of the input, where the numbers read there go by names.
 use Prim.Native.Nat.{ℕ, ◌+◌, ◌≤◌, ◌<◌}
 use mathlib.Core.Path.{◌≡◌, sym, ◌∙◌}
-use mathlib.Core.Bool.{Bool, true, false, not, cond}
+use mathlib.Core.Bool.{Bool, true, false, cond}
 use mathlib.Core.List.{List}
 use lib.Dec.{leb}
 use lib.ListN.{length, drop}
 use lib.Seq.{drop-drop}
-use borrow.Author.Tests.{le-leb, lt-leb, not-true, not-false}
+use borrow.Author.Tests.{le-leb, lt-leb}
 use Rattle.bits.specs.Bytes.{le}
 use Rattle.format.specs.Format.{head_bytes}
 use Rattle.program_records.specs.declared.fixed.BudgetRecord.TheVariants.{Budget, NoBudget}
@@ -16,18 +16,18 @@ use Rattle.program_records.specs.Fixed.{budget_record_of, cursor_record_of}
 use Rattle.program_records.proofs.Fits.{there_at}
 
 -- the record is there
-pub there : (s : List ℕ) (kind n at : ℕ) {h : Bool} → h ≡ has_body kind n (drop at s) → not h ≡ false → at + head_bytes + n ≤ length s
-there s kind n at {h} e k = there_at kind n at s (sym e ∙ not-false h k)
+pub there : (s : List ℕ) (kind n at : ℕ) {h : Bool} → h ≡ has_body kind n (drop at s) → h ≡ true → at + head_bytes + n ≤ length s
+there s kind n at {h} e k = there_at kind n at s (sym e ∙ k)
 
 module _ (s : List ℕ) (at most : ℕ) {h : Bool} (eh : h ≡ has_body budget_kind 4 (drop at s)) where
-  pub no_budget : not h ≡ true → NoBudget ≡ budget_record_of most (drop at s)
+  pub no_budget : h ≡ false → NoBudget ≡ budget_record_of most (drop at s)
   unfolding budget_record_of
-  no_budget k = rw (← eh, not-true h k)
+  no_budget k = rw (← eh, k)
 
-  module _ (k : not h ≡ false) {b : ℕ} (eb : b ≡ le 4 (drop (at + head_bytes) s)) where
+  module _ (k : h ≡ true) {b : ℕ} (eb : b ≡ le 4 (drop (at + head_bytes) s)) where
     budget_is : budget_record_of most (drop at s) ≡ cond (leb b most) (Budget b) NoBudget
     unfolding budget_record_of
-    budget_is = rw (← eh, not-false h k, drop-drop head_bytes at s, ← eb)
+    budget_is = rw (← eh, k, drop-drop head_bytes at s, ← eb)
 
     pub over_limit : most < b → NoBudget ≡ budget_record_of most (drop at s)
     over_limit l = rw (budget_is, lt-leb b most l)
@@ -36,14 +36,14 @@ module _ (s : List ℕ) (at most : ℕ) {h : Bool} (eh : h ≡ has_body budget_k
     a_budget l = rw (budget_is, le-leb b most l)
 
 module _ (s : List ℕ) (at : ℕ) {h : Bool} (eh : h ≡ has_body cursor_kind 16 (drop at s)) where
-  pub no_place : not h ≡ true → NoPlace ≡ cursor_record_of (drop at s)
+  pub no_place : h ≡ false → NoPlace ≡ cursor_record_of (drop at s)
   unfolding cursor_record_of
-  no_place k = rw (← eh, not-true h k)
+  no_place k = rw (← eh, k)
 
-  pub a_place : not h ≡ false → {a b c d : ℕ} → a ≡ le 4 (drop (at + head_bytes) s) → b ≡ le 4 (drop (at + (head_bytes + 4)) s) →
+  pub a_place : h ≡ true → {a b c d : ℕ} → a ≡ le 4 (drop (at + head_bytes) s) → b ≡ le 4 (drop (at + (head_bytes + 4)) s) →
       c ≡ le 4 (drop (at + (head_bytes + 8)) s) → d ≡ le 4 (drop (at + (head_bytes + 12)) s) →
       Place (record { at0 = a; at1 = b; at2 = c; next = d }) ≡ cursor_record_of (drop at s)
   unfolding cursor_record_of
   a_place k ea eb ec ed =
       let each : (n : ℕ) → drop n (drop at s) ≡ drop (at + n) s = λ n. drop-drop n at s in
-      rw (← eh, not-false h k, each head_bytes, each (head_bytes + 4), each (head_bytes + 8), each (head_bytes + 12), ← ea, ← eb, ← ec, ← ed)
+      rw (← eh, k, each head_bytes, each (head_bytes + 4), each (head_bytes + 8), each (head_bytes + 12), ← ea, ← eb, ← ec, ← ed)

@@ -1,7 +1,7 @@
 -- A stalled word is its thread's word again, three turns on.
-use Prim.Native.Nat.{ℕ, ◌<◌}
+use Prim.Native.Nat.{ℕ, ◌+◌, ◌<◌}
 use mathlib.Core.Path.{◌≡◌, refl, ◌∙◌}
-use mathlib.Core.Bool.{false}
+use mathlib.Core.Bool.{false, cond}
 use mathlib.Core.List.{List, [], ◌∷◌, ◌++◌}
 use native.Mathlib.Omega.{arith}
 use Rattle.machine.specs.Machine.{Machine}
@@ -58,7 +58,7 @@ due_on : (s : Streams) (quiet : ℕ) (c : Cursor) (first : List Turn) (t u v : T
     (was_refused t.outcome ≡ false) × (was_refused u.outcome ≡ false)
 due_on s quiet c [] t u v later x =
     (not_refused t.outcome u (v ∷ later) x.2, not_refused u.outcome v later x.3.2)
-due_on s quiet c (w ∷ first) t u v later x = due_on s _ w.cursor first t u v later x.3
+due_on s quiet c (w ∷ first) t u v later x = due_on s (cond (has_passed w.outcome) 0 (quiet + 1)) w.cursor first t u v later x.3
 
 -- a call that took turns was not refused
 took_turns : (s : Streams) (m : Machine) (c : Cursor) (budget : ℕ) (first : List Turn) (t : Turn) (later : List Turn) →

@@ -1,0 +1,27 @@
+use mathlib.Core.Path.{sym, ◌∙◌}
+use lib.ListN.{length}
+use Rattle.dest.proofs.Limits.{in32}
+use Rattle.dest.specs.Rows.{rows32}
+use Rattle.machine.specs.Answers.{accepted}
+use Rattle.word_rules.specs.CellWords.{flags_in}
+use Rattle.bench_dest.specs.DestRows.{rows32_at}
+use Rattle.bench_dest.proofs.Views.{past32, flags_denied, flags_same, row_past, row_within}
+use Rattle.bench_dest.proofs.places.find32.Goals as goal
+
+pub returns-in-Refused : goal.returns-in-Refused
+returns-in-Refused c =
+    let a = c.args in
+    flags_denied (flags_in a.bank a.config.now) (length a.config.now) a.cells a.marks a.bank a.row rows32 (accepted (rows32_at a.config.now a.bank a.row)) (rw c.in-Refused.is at c.find_flags.ensures)
+
+pub returns-in-Past32 : goal.returns-in-Past32
+returns-in-Past32 c =
+    let a = c.args in
+    row_past (flags_in a.bank a.config.now) (length a.config.now) a.cells a.marks a.bank a.row rows32 (accepted (rows32_at a.config.now a.bank a.row)) (rw c.in-Set.is at c.find_flags.ensures) (past32 a.row (sym c.new.ensures ∙ c.in-Past32.is))
+
+pub returns-in-In32 : goal.returns-in-In32
+returns-in-In32 c =
+    let a = c.args in
+    let h = rw c.in-Set.is at c.find_flags.ensures in
+    let v = in32 a.row c.in-In32.view (sym c.new.ensures ∙ c.in-In32.is) in
+    let f = flags_same (flags_in a.bank a.config.now) c.in-Set.flags (length a.config.now) a.cells a.marks a.bank h in
+    rw (c.high_row.ensures, c.low_row.ensures, v.1, f) (row_within (flags_in a.bank a.config.now) (length a.config.now) a.cells a.marks a.bank a.row rows32 (accepted (rows32_at a.config.now a.bank a.row)) h v.0)

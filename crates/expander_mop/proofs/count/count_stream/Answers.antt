@@ -1,0 +1,22 @@
+use Prim.Native.Nat.{◌+◌, ◌-◌, ◌≤◌}
+use mathlib.Core.Path.{◌≡◌}
+use native.Mathlib.Omega.{arith}
+use lib.ListN.{length, drop}
+use Rattle.expander_rules.specs.Counts.{stream_count}
+use Rattle.expander_rules.proofs.StreamLaws.{count_next, count_end}
+use Rattle.expander_mop.proofs.count.count_stream.Goals as goal
+
+pub returns-then-limit-n : goal.returns-then-limit-n
+returns-then-limit-n c =
+    let a = c.args in
+    omega (arith, count_next a.nine.now a.input.now c.loop-i.i c.loop-i-test.true, c.count_emission-n.ensures)
+
+pub loop-i-preserved : goal.loop-i-preserved
+loop-i-preserved c =
+    let a = c.args in
+    omega (arith, count_next a.nine.now a.input.now c.loop-i.i c.loop-i-test.true, c.count_emission-n.ensures)
+
+pub returns : goal.returns
+returns c =
+    let a = c.args in
+    omega (arith, count_end a.nine.now a.input.now c.loop-i.i c.loop-i-test.false)

@@ -1,0 +1,13 @@
+use Prim.Native.Nat.{◌-◌, ◌≤◌}
+use mathlib.Core.Path.{◌≡◌}
+use native.Mathlib.Omega.{arith}
+use lib.ListN.{length, drop}
+use Rattle.expander_rules.specs.Stream.{is_replay, any_replay}
+use Rattle.expander_rules.proofs.Words.{any_next, any_end}
+use Rattle.expander_replay.proofs.loads.any_replay.Given as goal
+
+abbrev pub invariant-loop-i : goal.invariant-loop-i
+invariant-loop-i l = (l.i ≤ length l.words) × (any_replay (drop l.i l.words) ≡ any_replay l.words)
+
+abbrev pub decreases-loop-i : goal.decreases-loop-i
+decreases-loop-i l = length l.words - l.i

@@ -1,0 +1,13 @@
+use Prim.Native.Nat.{◌-◌, ◌≤◌}
+use mathlib.Core.List.{[], ◌∷◌}
+use native.Mathlib.Omega.{arith}
+use lib.ListN.{length, get_or, drop, drop_of_length-le}
+use Rattle.expander_rules.proofs.Words.{words_next}
+use Rattle.expander_templates.proofs.Writing.{Left, left_start, left_room, left_next, left_done}
+use Rattle.expander_replay.proofs.pass.put_plain.Given as goal
+
+abbrev pub invariant-loop-i : goal.invariant-loop-i
+invariant-loop-i l = (l.i ≤ length l.words) × Left l.initial.out l.at l.words l.out l.p (drop l.i l.words)
+
+abbrev pub decreases-loop-i : goal.decreases-loop-i
+decreases-loop-i l = length l.words - l.i

@@ -1,0 +1,17 @@
+use Prim.Native.Nat.{◌+◌, ◌-◌}
+use mathlib.Core.Path.{refl, sym, ap, ◌∙◌}
+use native.Mathlib.Omega.{arith}
+use lib.Seq.{drop-drop}
+use Rattle.bits.specs.Bytes.{le}
+use Rattle.machine.specs.Sizes.{semaphore_count}
+use Rattle.format.proofs.Joins.{le_byte}
+use Rattle.format.proofs.Runs.{Reading, reading_starts, reading_there, reading_goes, reading_ends}
+use Rattle.image_layout.specs.Control.{semaphore_format}
+use Rattle.image_layout.specs.Places.{semaphores_at}
+use Rattle.image_control.proofs.read_semaphores.Given as goal
+
+abbrev pub invariant-loop-i : goal.invariant-loop-i
+invariant-loop-i l = Reading semaphore_format.get 2 l.s semaphores_at semaphore_count l.all l.p l.i
+
+abbrev pub decreases-loop-i : goal.decreases-loop-i
+decreases-loop-i l = semaphore_count - l.i

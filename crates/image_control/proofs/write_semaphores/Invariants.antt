@@ -1,0 +1,18 @@
+use Prim.Native.Nat.{◌-◌}
+use mathlib.Core.Path.{◌≡◌}
+use native.Mathlib.Omega.{arith}
+use lib.ListN.{length, length-append}
+use Rattle.bits.proofs.Bytes.{enc_long}
+use Rattle.machine.specs.Sizes.{semaphore_count}
+use Rattle.machine.proofs.Semaphores.{zero_semaphore}
+use Rattle.format.proofs.Writes.{wrote_to}
+use Rattle.format.proofs.Runs.{Writing, writing_starts, writing_room, writing_goes, writing_ends}
+use Rattle.image_layout.specs.Control.{semaphore_format}
+use Rattle.image_layout.specs.Places.{semaphores_at}
+use Rattle.image_control.proofs.write_semaphores.Given as goal
+
+abbrev pub invariant-loop-i : goal.invariant-loop-i
+invariant-loop-i l = Writing semaphore_format.put 2 l.initial.out semaphores_at l.all l.out l.p l.i × (length l.all ≡ semaphore_count)
+
+abbrev pub decreases-loop-i : goal.decreases-loop-i
+decreases-loop-i l = semaphore_count - l.i

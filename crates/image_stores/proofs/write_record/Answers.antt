@@ -1,0 +1,13 @@
+use native.Mathlib.Nat.{mul-le-mul_left}
+use native.Mathlib.Omega.{arith}
+use lib.ListN.{length}
+use Rattle.format.proofs.Writes.{wrote_next}
+use Rattle.image_stores.proofs.write_record.Goals as goal
+
+pub overflow_cast-src : goal.overflow_cast-src
+overflow_cast-src c =
+    omega (arith, mul-le-mul_left (length c.args.src.now) c.requires.2)
+
+pub returns : goal.returns
+returns c =
+    wrote_next (omega arith) c.write_head.ensures (λ h. c.write_words.ensures)

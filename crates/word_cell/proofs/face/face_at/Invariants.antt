@@ -1,0 +1,15 @@
+use Prim.Native.Nat.{◌≤◌, ◌+◌, ◌-◌, ◌*◌}
+use mathlib.Core.List.{◌++◌}
+use mathlib.Core.Path.{◌≡◌, sym, ◌∙◌}
+use native.Mathlib.Omega.{arith}
+use lib.ListN.{length, take, length-set}
+use Rattle.bits.specs.Values.{values}
+use Rattle.word_rules.specs.Face.{row_at, face_at}
+use Rattle.bits.proofs.Values.{fill_step, fill_end}
+use Rattle.word_cell.proofs.face.face_at.Given as goal
+
+abbrev pub invariant-loop-r : goal.invariant-loop-r
+invariant-loop-r l = (l.r ≤ 16) × (length l.face ≡ 16) × (take l.r l.face ++ values l.r (16 - l.r) (λ k. row_at (l.at + k * 16) l.s) ≡ face_at l.at l.s)
+
+abbrev pub decreases-loop-r : goal.decreases-loop-r
+decreases-loop-r l = 16 - l.r

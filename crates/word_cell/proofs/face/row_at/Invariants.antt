@@ -1,0 +1,15 @@
+use Prim.Native.Nat.{◌≤◌, ◌+◌, ◌-◌}
+use mathlib.Core.List.{◌++◌}
+use mathlib.Core.Path.{◌≡◌, sym, ◌∙◌, refl}
+use native.Mathlib.Omega.{arith}
+use lib.ListN.{length, take, get_or, length-set}
+use Rattle.bits.specs.Values.{values}
+use Rattle.word_rules.specs.Face.{row_at}
+use Rattle.bits.proofs.Values.{fill_step, fill_end}
+use Rattle.word_cell.proofs.face.row_at.Given as goal
+
+abbrev pub invariant-loop-c : goal.invariant-loop-c
+invariant-loop-c l = (l.c ≤ 16) × (length l.row ≡ 16) × (take l.c l.row ++ values l.c (16 - l.c) (λ k. get_or l.s (l.at + k) 0) ≡ row_at l.at l.s)
+
+abbrev pub decreases-loop-c : goal.decreases-loop-c
+decreases-loop-c l = 16 - l.c

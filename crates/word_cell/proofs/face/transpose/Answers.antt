@@ -1,0 +1,15 @@
+use Prim.Native.Nat.{◌≤◌, ◌-◌}
+use mathlib.Core.List.{◌++◌}
+use mathlib.Core.Path.{◌≡◌, sym, ◌∙◌}
+use native.Mathlib.Omega.{arith}
+use lib.ListN.{length, take, length-set}
+use Rattle.bits.specs.Values.{values}
+use Rattle.word_rules.specs.Face.{column_of, transposed}
+use Rattle.bits.proofs.Values.{fill_step, fill_end}
+use Rattle.word_cell.proofs.face.transpose.Goals as goal
+
+pub loop-r-preserved : goal.loop-r-preserved
+loop-r-preserved c = (omega arith, simp length-set c.loop-r.invariant.1, fill_step _ _ _ _ _ c.column_of-row.ensures c.loop-r-test.true c.loop-r.invariant.1 ∙ c.loop-r.invariant.2)
+
+pub returns : goal.returns
+returns c = sym (fill_end _ _ _ _ c.loop-r-test.false c.loop-r.invariant.0 c.loop-r.invariant.1) ∙ c.loop-r.invariant.2
