@@ -22,8 +22,8 @@ loop-i-preserved c =
     let done = c.unpack in
     let l = c.loop-i in
     let a = c.args in
-    let next = marks_next marks_size a.at l.i a.s.now l.marks done.new.1.0 c.loop-i-test.true (omega arith) done.ensures in
-    (omega arith, done.auto.1.0 ∙ l.invariant.1, next ∙ l.invariant.2)
+    let next = marks_next marks_size a.at l.i a.s.now l.marks done.new.marks c.loop-i-test.true (omega arith) done.ensures in
+    (omega arith, done.auto.marks ∙ l.invariant.1, next ∙ l.invariant.2)
 
 pub shape_of-marks : goal.shape_of-marks
 shape_of-marks c = c.loop-i.invariant.1 ∙ sym c.requires.1

@@ -1,0 +1,19 @@
+use Prim.Native.Nat.{◌-◌, ◌≤◌}
+use mathlib.Core.Path.{◌≡◌, sym, ◌∙◌}
+use native.Mathlib.Omega.{arith}
+use lib.ListN.{length, length-take}
+use Rattle.expander_rules.specs.Sizes.{part_most}
+use Rattle.expander_rules.specs.Templates.{rounds}
+use Rattle.expander_rules.specs.Stream.{mop_words}
+use Rattle.expander_rules.proofs.Rounds.{rounds_next, rounds_end}
+use Rattle.expander_replay.proofs.Passing.{Passing, passing_start, passing_part, passing_next, passing_done}
+use Rattle.expander.specs.Parts.{mop_part}
+use Rattle.expander.proofs.MopParts.{parts_all}
+use Rattle.expander.proofs.pass.pass_parts.Given as goal
+
+abbrev pub invariant-loop-o : goal.invariant-loop-o
+invariant-loop-o l =
+    (l.o ≤ l.count) × (length l.room ≡ part_most) × Passing l.initial.slots l.initial.p (mop_words l.nine l.high l.word) l.initial.out l.slots l.out l.p (rounds (mop_part l.nine l.high l.word) l.o (l.count - l.o))
+
+abbrev pub decreases-loop-o : goal.decreases-loop-o
+decreases-loop-o l = l.count - l.o

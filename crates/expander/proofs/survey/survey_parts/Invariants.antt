@@ -1,0 +1,19 @@
+use Prim.Native.Nat.{◌-◌, ◌≤◌}
+use mathlib.Core.Path.{◌≡◌, ◌∙◌}
+use native.Mathlib.Omega.{arith}
+use lib.ListN.{length, length-take}
+use Rattle.expander_rules.specs.Sizes.{part_most}
+use Rattle.expander_rules.specs.Templates.{rounds}
+use Rattle.expander_rules.specs.Stream.{mop_words}
+use Rattle.expander_rules.proofs.Rounds.{rounds_next, rounds_end}
+use Rattle.expander_replay.proofs.Surveys.{Onward, onward_start, onward_next, onward_stopped, onward_done}
+use Rattle.expander.specs.Parts.{mop_part}
+use Rattle.expander.proofs.MopParts.{parts_all}
+use Rattle.expander.proofs.survey.survey_parts.Given as goal
+
+abbrev pub invariant-loop-o : goal.invariant-loop-o
+invariant-loop-o l =
+    (l.o ≤ l.count) × (length l.room ≡ part_most) × Onward l.initial.s (mop_words l.nine l.high l.word) l.limit l.s (rounds (mop_part l.nine l.high l.word) l.o (l.count - l.o))
+
+abbrev pub decreases-loop-o : goal.decreases-loop-o
+decreases-loop-o l = l.count - l.o

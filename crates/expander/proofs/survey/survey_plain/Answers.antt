@@ -1,0 +1,23 @@
+use mathlib.Core.Path.{refl}
+use native.Mathlib.Omega.{arith}
+use Rattle.expander_rules.specs.Stream.{mop_words}
+use Rattle.expander_rules.proofs.StreamLaws.{mop_long}
+use Rattle.expander_rules.proofs.Plain.{mop_plain}
+use Rattle.expander_replay.proofs.Surveys.{surveyed_plain}
+use Rattle.expander.proofs.survey.survey_plain.Goals as goal
+
+pub returns-then-limit-s : goal.returns-then-limit-s
+returns-then-limit-s c =
+    let a = c.args in
+    let m = a.nine.now in
+    λ high.
+    surveyed_plain a.s (mop_words m high a.word) a.limit _ c.requires.2 (mop_plain m c.requires.1 high a.word) c.requires.3.fine
+    (omega (arith, c.requires.3.small)) refl
+
+pub returns : goal.returns
+returns c =
+    let a = c.args in
+    let m = a.nine.now in
+    λ high.
+    surveyed_plain a.s (mop_words m high a.word) a.limit _ c.requires.2 (mop_plain m c.requires.1 high a.word) refl
+    (omega (arith, mop_long m high a.word, c.count_mop.ensures)) refl
