@@ -20,11 +20,7 @@ use Rattle.expander_rules.proofs.Empty.{empty_loads}
 use Rattle.expander_rules.proofs.Whole.{refused_pieces, stages, plain_streams, slots_handed_back, fresh_expander}
 use Rattle.expander_rules.proofs.PlayBack.{back}
 use Rattle.acceptance.proofs.Worked.{all_worked}
-use Rattle.acceptance.proofs.promises.Statement.{statement}
-use Rattle.acceptance.proofs.promises.Tie as tie
+use Rattle.acceptance.proofs.promises.Goals as goal
 
-returns : tie.Need-returns
-returns c = (isolated, (all_worked, (unchanged, (keeps_formed, (chained, (observed, (offered_again, (ended, (run_keeps, (stuck_for_good, (causes_hold, (stuck_says, (views_cover, (image_facts, (round_trips, (gpr_promises, (dest_promises, (source_promises, (cut, (joined_pieces, (refused_pieces, (carries_formed, (empty_loads, (stages, (plain_streams, (back, (slots_handed_back, fresh_expander)))))))))))))))))))))))))))
-
-pub promises-spec : {M : Type 1} → statement M
-promises-spec = tie.close (tie.spec returns)
+pub returns : goal.returns
+returns c = record { isolated = isolated; worked = all_worked; unchanged = unchanged; kept = keeps_formed; chained = chained; observed = observed; again = offered_again; ended = ended; keeps = run_keeps; stuck = stuck_for_good; causes = causes_hold; says = stuck_says; covers = views_cover; images = image_facts; trips = round_trips; gprs = gpr_promises; rows = dest_promises; sources = source_promises; cut = cut; joined = joined_pieces; refused = refused_pieces; formed = carries_formed; empty = empty_loads; stages = stages; plain = plain_streams; back = back; slots = slots_handed_back; fresh = fresh_expander }

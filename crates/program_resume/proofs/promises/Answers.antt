@@ -1,0 +1,5 @@
+use Rattle.program_resume.proofs.Longer.{long_resumes}
+use Rattle.program_resume.proofs.promises.Goals as goal
+
+pub returns : goal.returns
+returns c = long_resumes
