@@ -1,9 +1,9 @@
 """Cuts each long stream of the expander's stored cases in two at each place, and compares with one call.
 
-    python3 oracle/check_long_pieces.py    after `rt check` or `rt ci`; takes some minutes
+    python3 oracle/check_long_pieces.py    after `rt ci`, or `rt run` in crates/test_expander; takes some minutes
 
-The proved program, target/bin/test_expander, makes the two calls of each cut. What they must come to is read off one call of the
-reference program, which tells what is written and carried after each word. Only of streams that one call accepts.
+The proved program test_expander makes the two calls of each cut. What they must come to is read off one call of the reference
+program, which tells what is written and carried after each word. Only of streams that one call accepts.
 """
 
 import struct
@@ -16,7 +16,7 @@ from cases.cases_expander import AT_EACH_PLACE, SEED, carried_line, checksum, cl
 from expander import NEEDED_LIMIT, STREAM_LIMIT, Call, Carried, load_numbers
 from seeded import Draws
 
-PROGRAM = Path(__file__).resolve().parent.parent / 'target/bin/test_expander'
+PROGRAM = Path(__file__).resolve().parent.parent / 'crates/test_expander/out/test_expander'
 
 
 def after_each_word(call, case):

@@ -1,10 +1,10 @@
-"""Runs the programs themselves, as they are in target/bin, and compares what they print with the reference program.
+"""Runs the programs themselves, as rt built them, and compares what they print with the reference program.
 
-    python3 oracle/check_programs.py    after `rt check` or `rt ci`
+    python3 oracle/check_programs.py    after `rt ci`, or `rt run` in the folder of each
 
 Each is run on its longest sound input, on that with one byte more and with a megabyte more, and on the examples that it reads;
-`trace` also on a run of 589,822 turns, and `expand` on inputs at its limits, with loads, closes, refused, damaged and drawn. rt
-runs a program on one stored input alone, and these are too many or too long to be stored.
+`expand` also on inputs at its limits, with loads, closes, refused, damaged and drawn. rt runs a program on one stored input
+alone, and these are too many or too long to be stored. What is run is LLVM's build, crates/NAME/out/NAME.
 """
 
 import subprocess
@@ -21,6 +21,7 @@ from run import STREAM_LIMIT
 
 TOP = Path(__file__).resolve().parent.parent
 PREFIXES = {'emulate': '', 'resume': 'saved_', 'trace': 'saved_', 'expand': 'recorded_'}  # of the examples that each reads
+BUILT = ('emulate', 'resume', 'expand')  # `trace` is still to come
 
 
 def full_streams(words):
@@ -82,14 +83,15 @@ def inputs(program):
 def main():
     """The exit code."""
     wrong = tried = 0
-    for program, reference in PROGRAMS.items():
+    for program in BUILT:
         for name, data in inputs(program).items():
-            came = subprocess.run([TOP / 'target/bin' / program], input=data, stdout=subprocess.PIPE, check=False).stdout
+            built = TOP / 'crates' / program / 'out' / program
+            came = subprocess.run([built], input=data, stdout=subprocess.PIPE, check=False).stdout
             tried += 1
-            if came != reference(data):
+            if came != PROGRAMS[program](data):
                 wrong += 1
                 print(f'{program} differs on: {name} ({len(data)} bytes)')
-    print(f'{tried} inputs of {", ".join(PROGRAMS)} run: {wrong} differ')
+    print(f'{tried} inputs of {", ".join(BUILT)} run: {wrong} differ')
     return int(wrong > 0)
 
 

@@ -153,13 +153,14 @@ def saved_summary(result, streams):
 
 def resume(data, load=read_image):
     """Standard output of the whole-state program: an image, streams, budget and cursor in; lines and an image out.
-    The machine that the image loads to is run, and written; a refused call leaves it as it came."""
+    The machine that the image loads to is run, and written; of a refused call the image is written as it came."""
     try:
         machine, streams, cursor, budget = saved_run(data, load)
     except BadInput as bad:
         return bad.told()
     result = run(machine, streams, cursor, budget)
-    return saved_summary(result, streams) + image_of(machine)
+    after = data[:SIZE] if result.answer[0] == 'rejected' else image_of(machine)
+    return saved_summary(result, streams) + after
 
 
 def turn_line(number, thread, word, outcome):

@@ -1,11 +1,11 @@
-"""Words for crates/test_decode, 4 bytes each, and the line of each: its name by its opcode, `?` where that is in no row, and its
-fields from the highest bits down, or `refused N`. In front of a second operand stands whether it is a constant or a register."""
+"""Words for crates/test_decode, 4 bytes each, and the line of each: its name and its fields from the highest bits down, or
+`refused N`. In front of a second operand stands whether it is a constant or a register."""
 
 import struct
 
 from assemble import zeroacc
 from bits import bits
-from decode import TABLE, decode, name_of
+from decode import TABLE, decode
 from seeded import Draws
 
 ALWAYS_0 = ('signal_mode', 'addr_mod')  # in every word that is not refused
@@ -22,10 +22,12 @@ def shown(name, fields):
 
 
 def line(word):
-    """For instance `ADDDMAREG 3 constant 5 4`, `SETDMAREG refused 2` or `? refused 2`."""
-    name, decoded = name_of(word), decode(word)
-    texts = map(str, decoded) if decoded[0] == 'refused' else shown(name, decoded[3])
-    return ' '.join((name, *texts)) + '\n'
+    """For instance `ADDDMAREG 3 constant 5 4`."""
+    decoded = decode(word)
+    if decoded[0] == 'refused':
+        return f'refused {decoded[1]}\n'
+    _, name, _, fields = decoded
+    return ' '.join((name, *shown(name, fields))) + '\n'
 
 
 def each_opcode():

@@ -140,7 +140,8 @@ SMALL = Case(QUIET[0], tail_of([[asm.nop(), asm.cleardvalid(reset=1), asm.semini
                                 [asm.rmwcib(3, 10, 0xF0, 0xAB)]], 100, (1, 0, 0), 2))
 
 
-def files():
+def files_to_come():
+    """Those of the crates `trace` and `test_trace`, which are still to come."""
     made = cases()
     return {
         'crates/trace/stdin': input_of(SMALL),
@@ -148,6 +149,11 @@ def files():
         f'{FOLDER}/stdin': b''.join(struct.pack('<I', piece) + packed(case) for piece, case in made),
         f'{FOLDER}/stdout': b''.join(answer(case) for _, case in made),
     }
+
+
+def files():
+    """None is stored before those crates stand."""
+    return {}
 
 
 def ending(output):

@@ -4,7 +4,6 @@ import unittest
 
 import assemble as asm
 import seeded
-from cases.cases_decode import line
 from decode import decode, name_of
 from machine import MATRIX, fresh
 from words import offer, step
@@ -164,16 +163,6 @@ class Names(unittest.TestCase):
     def test_of_a_decoded_word(self):
         for opcode, name in NAMES.items():
             self.assertEqual(decode(opcode << 24)[1], name)
-
-    def test_in_the_line_of_a_word(self):
-        for word, text in ((0x58803144, 'ADDDMAREG 3 constant 5 4'), (0x5A003144, 'MULDMAREG 3 register 5 4'), (0x02FFFFFF, 'NOP'),
-                           (0xB3F0AB0A, 'RMWCIB0 240 171 10'), (0xB4F0AB0A, 'RMWCIB1 240 171 10'),
-                           (0xB5F0AB0A, 'RMWCIB2 240 171 10'), (0xB6F0AB0A, 'RMWCIB3 240 171 10'),
-                           (0x45000080, 'SETDMAREG refused 2'), (0x0B004000, 'MOVB2A refused 2'), (0x10004400, 'ZEROACC refused 2'),
-                           (0x10000400, 'ZEROACC refused 3'), (0xA0000009, 'ATGETM refused 3'), (0xA1000008, 'ATRELM refused 3'),
-                           (0xB0000100, 'WRCFG refused 3'), (0xB1400000, 'RDCFG refused 3'), (0xFF000000, '? refused 2'),
-                           (0x01000000, '? refused 2'), (0x04000041, '? refused 2')):
-            self.assertEqual(line(word), text + '\n')
 
 
 class BlockBits(unittest.TestCase):

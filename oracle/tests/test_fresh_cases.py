@@ -37,9 +37,5 @@ class Fresh(unittest.TestCase):
 
     def test_decode(self):
         _, stdout = cases_decode.input_and_output(cases_decode.any_words(Draws(1), 3000))
-        lines = stdout.decode().splitlines()
-        self.assertEqual({line.split()[0] for line in lines if ' refused ' not in line}, {name for name, _, _ in TABLE.values()})
-        self.assertEqual({line for line in lines if ' refused ' in line},
-                         {f'{name} refused {number}' for number, names in (
-                             (2, ('SETDMAREG', 'MOVB2A', 'ZEROACC')),
-                             (3, ('WRCFG', 'RDCFG', 'ATGETM', 'ATRELM', 'ZEROACC'))) for name in names})
+        words = {' '.join(line.split()[:2 if line.startswith('refused') else 1]) for line in stdout.decode().splitlines()}
+        self.assertEqual(words, {'refused 2', 'refused 3', *(name for name, _, _ in TABLE.values())})

@@ -98,8 +98,8 @@ class Trace(unittest.TestCase):
         self.assertEqual(list(missing((TOP / 'docs/TRACE.md').read_text())), [])
 
     def test_a_wrong_name_is_seen(self):
-        self.assertEqual(list(missing('word_rules/specs/Waits: `holdsLater`, `holdsNow`')), ['word_rules/specs/Waits: holdsLater'])
-        self.assertEqual(list(missing('word_rules/specs/Later: `holdsNow`')), ['word_rules/specs/Later: holdsNow'])
+        self.assertEqual(list(missing('word_rules/specs/Waits: `holds_later`, `holds_now`')), ['word_rules/specs/Waits: holds_later'])
+        self.assertEqual(list(missing('word_rules/specs/Later: `holds_now`')), ['word_rules/specs/Later: holds_now'])
         self.assertEqual(list(missing('oracle/image: `SIZE`, `LATER`')), ['oracle/image: LATER'])
 
     def test_a_wrong_program_is_seen(self):
@@ -108,8 +108,8 @@ class Trace(unittest.TestCase):
     def test_an_imported_name_is_seen(self):
         self.assertIn('Stepped', (TOP / 'crates/step/src/lib.rt').read_text())
         self.assertEqual(list(missing('step/src/lib: `Stepped`; word_rules/src/stepped: `Stepped`')), ['step/src/lib: Stepped'])
-        self.assertIn('flagsIn', (TOP / 'crates/bench_dest/specs/DestRows.antt').read_text())
-        self.assertEqual(list(missing('bench_dest/specs/DestRows: `flagsIn`')), ['bench_dest/specs/DestRows: flagsIn'])
+        self.assertIn('flags_in', (TOP / 'crates/bench_dest/specs/DestRows.antt').read_text())
+        self.assertEqual(list(missing('bench_dest/specs/DestRows: `flags_in`')), ['bench_dest/specs/DestRows: flags_in'])
 
     def test_a_wrong_clause_is_seen(self):
         place = 'word_cell/src/marks'
@@ -189,7 +189,7 @@ class Prose(unittest.TestCase):
 
     def test_a_wrong_name_is_seen(self):
         self.assertEqual(missing_in_prose('`word_waits/src/lib.rt`, `judge`, `judged`'), ['word_waits/src/lib: judged'])
-        self.assertEqual(missing_in_prose('`judge`, `holdsNow`, `word_rules/specs/Waits.antt`'), ['word_rules/specs/Waits: judge'])
+        self.assertEqual(missing_in_prose('`judge`, `holds_now`, `word_rules/specs/Waits.antt`'), ['word_rules/specs/Waits: judge'])
         self.assertEqual(missing_in_prose('`Control` (`step/src/lib.rt`)'), ['step/src/lib: Control'])
 
 
