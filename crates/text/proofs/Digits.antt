@@ -22,7 +22,8 @@ in_long base byte (suc k) n = length-append (last_digits_in base byte k (n / bas
 
 pub digits_long : (k n : ℕ) → length (last_digits k n) ≡ k
 unfolding last_digits
-digits_long k n = in_long 10 (λ d. d + 48) k n
+digits_long zero n = refl
+digits_long (suc k) n = length-append (last_digits k (n / 10)) _ ∙ rw (digits_long k (n / 10)) (add-one k)
 
 pub hex_long : (w : ℕ) → length (hex_word w) ≡ hex_digits
 unfolding hex_word
@@ -70,7 +71,12 @@ in_next base byte l at (suc left) m h k =
 pub digits_next : (l : List ℕ) (at left m : ℕ) → 0 < left → at + left ≤ length l →
     over (set l (at + (left - 1)) (m % 10 + 48)) at (last_digits (left - 1) (m / 10)) ≡ over l at (last_digits left m)
 unfolding last_digits
-digits_next l at left m h k = in_next 10 (λ d. d + 48) l at left m h k
+digits_next l at zero m h k = absurd (omega arith)
+digits_next l at (suc left) m h k =
+    let e : suc left - 1 ≡ left = omega arith in
+    let n : length (last_digits left (m / 10)) ≡ left = digits_long left (m / 10) in
+    let f : at + left ≡ at + length (last_digits left (m / 10)) = ap (λ (x : ℕ). at + x) (sym n) in
+    rw (e, f) (over_before l at (last_digits left (m / 10)) (m % 10 + 48) (omega arith))
 
 -- a turn of the writing of bytes
 pub bytes_next : (l : List ℕ) (p i : ℕ) (t : List ℕ) → i < length t → p < length l →
@@ -92,4 +98,4 @@ in_none base byte l at left n e = rw e (over_none l at)
 
 pub digits_none : (l : List ℕ) (at left n : ℕ) → left ≡ 0 → over l at (last_digits left n) ≡ l
 unfolding last_digits
-digits_none l at left n e = in_none 10 (λ d. d + 48) l at left n e
+digits_none l at left n e = rw e (over_none l at)

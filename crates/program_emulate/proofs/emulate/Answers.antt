@@ -10,12 +10,10 @@ run_script-requires c =
 
 pub returns-in-BadAt : goal.returns-in-BadAt
 returns-in-BadAt c =
-    let g = c.read-1.given in
-    let same = bad_printed c.args.input.now c.read_script-read.result c.read_script-read.ensures g.0.0 g.1 in
-    (wrote_as same c.put_number_line.ensures.0, omega arith)
+    let same = bad_printed c.args.input.now c.read_script-read.result c.read_script-read.ensures c.in-BadAt.at c.in-BadAt.is in
+    record { wrote = wrote_as same c.put_number_line.ensures.wrote; short = omega arith }
 
 pub returns-in-Sound : goal.returns-in-Sound
 returns-in-Sound c =
-    let g = c.read-in-Sound-1.given in
-    let same = sound_printed c.args.input.now c.read_script-read.result c.read_script-read.ensures g.0.0 g.1 in
-    (wrote_as same c.run_script.ensures.0, c.run_script.ensures.1)
+    let same = sound_printed c.args.input.now c.read_script-read.result c.read_script-read.ensures c.in-Sound.script c.in-Sound.is in
+    record { wrote = wrote_as same c.run_script.ensures.wrote; short = c.run_script.ensures.short }

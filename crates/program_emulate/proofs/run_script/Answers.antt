@@ -42,5 +42,5 @@ returns c =
     let a = c.args in
     let f = c.run_fresh-told in
     let same = printed a.input.now a.script _ (told_ending f.result.answer) f.result.turns f.result.cursor (told_stalls f.result.stalls) c.read_streams.ensures
-    (record { answer = f.ensures.answer; turns = f.ensures.turns.0; cursor = f.ensures.turns.1.0; stalls = f.ensures.turns.1.1 }) in
-    (wrote_as same c.put_run_lines.ensures.0, omega arith)
+    (record { answer = f.ensures.answer; turns = f.ensures.turns; cursor = f.ensures.cursor; stalls = f.ensures.stalls }) in
+    record { wrote = wrote_as same c.put_run_lines.ensures.wrote; short = omega arith }

@@ -21,10 +21,9 @@ returns-in-Refused c =
     let a = c.args in
     let l = c.load_whole-loaded in
     let load = l.ensures ∙ ap (load_of a.came.now) c.fresh.ensures.whole in
-    let g = c.answer-1.given in
     let o = c.bad_offset in
-    let same = parts_bad a.came.now a.tail.now l.result.answer (machine_of l.result.machine) load g.0.0 o.result o.ensures g.1 in
-    wrote_as same c.put_number_line.ensures.0
+    let same = parts_bad a.came.now a.tail.now l.result.answer (machine_of l.result.machine) load c.in-Refused.r o.result o.ensures c.in-Refused.is in
+    wrote_as same c.put_number_line.ensures.wrote
 
 pub returns-in-Taken : goal.returns-in-Taken
 returns-in-Taken c =

@@ -8,8 +8,7 @@ use Rattle.program_resume.proofs.whole.resume_records.Goals as goal
 
 pub overflow_add-at : goal.overflow_add-at
 overflow_add-at c =
-    let g = c.read-1.given in
-    omega (arith, faulty_near c.args.tail.now g.0.0 (sym c.read_resume_script-read.ensures ∙ g.1))
+    omega (arith, faulty_near c.args.tail.now c.in-Faulty.at (sym c.read_resume_script-read.ensures ∙ c.in-Faulty.is))
 
 pub run_alone-requires : goal.run_alone-requires
 run_alone-requires c =
@@ -19,12 +18,10 @@ pub returns-in-Faulty : goal.returns-in-Faulty
 returns-in-Faulty c =
     let a = c.args in
     let r = c.read_resume_script-read in
-    let g = c.read-1.given in
-    wrote_as (records_bad a.came.now a.tail.now (machine_of a.m) r.result r.ensures g.0.0 g.1) c.put_number_line.ensures.0
+    wrote_as (records_bad a.came.now a.tail.now (machine_of a.m) r.result r.ensures c.in-Faulty.at c.in-Faulty.is) c.put_number_line.ensures.wrote
 
 pub returns-in-Whole : goal.returns-in-Whole
 returns-in-Whole c =
     let a = c.args in
     let r = c.read_resume_script-read in
-    let g = c.read-in-Whole-1.given in
-    wrote_as (records_whole a.came.now a.tail.now (machine_of a.m) r.result r.ensures g.0.0 g.1) c.run_alone.ensures
+    wrote_as (records_whole a.came.now a.tail.now (machine_of a.m) r.result r.ensures c.in-Whole.script c.in-Whole.is) c.run_alone.ensures
