@@ -1,5 +1,5 @@
 -- What a closed gate tells.
-use Prim.Native.Nat.{ℕ, zero, suc, ◌+◌, ◌-◌, ◌/◌, ◌%◌, ◌^◌, ◌<◌, ◌≤◌}
+use Prim.Native.Nat.{ℕ, zero, suc, ◌+◌, ◌-◌, ◌/◌, ◌%◌, ◌<◌, ◌≤◌}
 use mathlib.Core.Path.{◌≡◌, refl, sym, ap, ◌∙◌}
 use mathlib.Core.Bool.{Bool, true, false, cond, ◌&&◌, ◌||◌}
 use mathlib.Core.List.{List, [], ◌∷◌}
@@ -12,7 +12,7 @@ use lib.Pow.{shr-shr}
 use lib.ListN.{length, get_or}
 use borrow.Author.Tests.{eqb-true, eqb-false, ne_eqb}
 use Rattle.bits.specs.Field.{flag, low_bit}
-use Rattle.bits.proofs.Choices.{never, and_left, and_right, neither}
+use Rattle.bits.proofs.Choices.{and_left, and_right, neither}
 use Rattle.machine.specs.declared.control.Wait.{Wait}
 use Rattle.machine.specs.declared.control.Wait.TheVariants.{Clear, OnStall, OnSemaphore}
 use Rattle.machine.specs.declared.control.Semaphore.{Semaphore}
@@ -28,7 +28,7 @@ use Rattle.word_rules.specs.declared.instruction.SyncWord.TheVariants.{AtGetM, A
 use Rattle.word_rules.specs.declared.instruction.Instruction.{Instruction}
 use Rattle.word_rules.specs.declared.instruction.Instruction.TheVariants.{Nop, Cell, Bank, Scalar, Sync, Config}
 use Rattle.word_rules.specs.Table.{decode_of}
-use Rattle.word_rules.specs.Waits.{condition_holds, named_holds, held_if, stall_held, meets, masked_meets, semaphore_cause, semaphore_held, held_by, wait_block, named_by, Gate, Open, Closed, mutex_open, mutex_gate, cell_gate, sync_gate, own_gate, wait_gate, gate_of}
+use Rattle.word_rules.specs.Waits.{condition_holds, named_holds, held_if, stall_held, meets, masked_meets, semaphore_cause, semaphore_held, held_by, wait_block, named_by, Open, Closed, mutex_open, mutex_gate, cell_gate, sync_gate, own_gate, wait_gate, gate_of}
 use Rattle.word_rules.specs.Causes.{LowestCondition, semaphore_at, LowestSemaphore, HeldFor, StalledFor}
 
 -- ---- stall conditions

@@ -14,7 +14,7 @@ use Rattle.word_rules.specs.declared.instruction.Instruction.TheVariants.{Nop, C
 use Rattle.word_rules.specs.declared.stepped.Stepped.{Stepped}
 use Rattle.word_rules.specs.declared.held.Held.{Held}
 use Rattle.word_rules.specs.declared.held.Held.TheVariants.{Free, By}
-use Rattle.word_rules.specs.Waits.{meets, semaphore_cause, held_by, holds_now, wait_block, named_by, Gate, Open, Closed, cell_gate, own_gate}
+use Rattle.word_rules.specs.Waits.{meets, semaphore_cause, holds_now, wait_block, named_by, Gate, Open, Closed, cell_gate, own_gate}
 use Rattle.word_rules.specs.After.{word_after, settings_after, stores_after}
 
 -- ---- by a gate

@@ -1,11 +1,10 @@
-use Prim.Native.Nat.{◌-◌}
 use mathlib.Core.List.{map}
 use mathlib.Core.Path.{sym, ◌∙◌}
 use native.Mathlib.Omega.{arith}
 use lib.ListN.{get_or-map, length-map, replicate}
 use Rattle.bench_cells.specs.Cells.{half_at}
 use Rattle.bits.proofs.Overwrite.{over_whole}
-use Rattle.bench_cells.proofs.Writing.{Writing, writing_start, writing_next, writing_done}
+use Rattle.bench_cells.proofs.Writing.{writing_start, writing_next, writing_done}
 use Rattle.bench_cells.proofs.halves_of.Goals as goal
 
 pub loop-i-init : goal.loop-i-init

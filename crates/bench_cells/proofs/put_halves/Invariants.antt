@@ -1,7 +1,6 @@
 use Prim.Native.Nat.{◌-◌}
-use mathlib.Core.Path.{refl}
 use lib.ListN.{length}
-use Rattle.bench_cells.proofs.Writing.{Writing, writing_start, writing_next, writing_done}
+use Rattle.bench_cells.proofs.Writing.{Writing}
 use Rattle.bench_cells.proofs.put_halves.Given as goal
 
 abbrev pub invariant-loop-i : goal.invariant-loop-i

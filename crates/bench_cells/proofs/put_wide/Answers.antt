@@ -1,10 +1,8 @@
-use Prim.Native.Nat.{◌-◌}
 use mathlib.Core.Path.{sym}
 use native.Mathlib.Omega.{arith}
-use lib.ListN.{length}
 use Rattle.bench_cells.specs.Cells.{wide_cell, wide_cells}
 use Rattle.bench_cells.proofs.Halves.{zip_long, zip_at}
-use Rattle.bench_cells.proofs.Writing.{Writing, writing_start, writing_next, writing_done}
+use Rattle.bench_cells.proofs.Writing.{writing_start, writing_next, writing_done}
 use Rattle.bench_cells.proofs.put_wide.Goals as goal
 
 pub loop-i-init : goal.loop-i-init

@@ -1,10 +1,7 @@
 use Prim.Native.Nat.{◌-◌}
-use mathlib.Core.Path.{sym}
-use native.Mathlib.Omega.{arith}
 use lib.ListN.{length}
-use Rattle.bench_cells.specs.Cells.{wide_cell, wide_cells}
-use Rattle.bench_cells.proofs.Halves.{zip_long, zip_at}
-use Rattle.bench_cells.proofs.Writing.{Writing, writing_start, writing_next, writing_done}
+use Rattle.bench_cells.specs.Cells.{wide_cells}
+use Rattle.bench_cells.proofs.Writing.{Writing}
 use Rattle.bench_cells.proofs.put_wide.Given as goal
 
 abbrev pub invariant-loop-i : goal.invariant-loop-i

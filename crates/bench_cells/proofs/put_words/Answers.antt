@@ -1,7 +1,5 @@
-use Prim.Native.Nat.{◌-◌}
 use mathlib.Core.Path.{refl}
-use lib.ListN.{length}
-use Rattle.bench_cells.proofs.Writing.{Writing, writing_start, writing_next, writing_done}
+use Rattle.bench_cells.proofs.Writing.{writing_start, writing_next, writing_done}
 use Rattle.bench_cells.proofs.put_words.Goals as goal
 
 pub loop-i-init : goal.loop-i-init

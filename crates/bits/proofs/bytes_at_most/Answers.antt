@@ -1,9 +1,6 @@
-use Prim.Native.Nat.{◌≤◌, ◌-◌}
-use mathlib.Core.Path.{◌≡◌, refl}
+use mathlib.Core.Path.{refl}
 use native.Mathlib.Omega.{arith}
 use borrow.Author.Tests.{le-leb, lt-leb}
-use lib.ListN.{length, drop}
-use Rattle.bits.specs.Ranges.{all_at_most}
 use Rattle.bits.proofs.Ranges.{at_most_step, at_most_end}
 use Rattle.bits.proofs.bytes_at_most.Goals as goal
 

@@ -1,10 +1,7 @@
 use Prim.Native.Nat.{◌≤◌, ◌-◌}
-use mathlib.Core.Path.{◌≡◌, refl}
-use native.Mathlib.Omega.{arith}
-use borrow.Author.Tests.{le-leb, lt-leb}
+use mathlib.Core.Path.{◌≡◌}
 use lib.ListN.{length, drop}
 use Rattle.bits.specs.Ranges.{all_at_most}
-use Rattle.bits.proofs.Ranges.{at_most_step, at_most_end}
 use Rattle.bits.proofs.bytes_at_most.Given as goal
 
 abbrev pub invariant-loop-i : goal.invariant-loop-i

@@ -1,9 +1,5 @@
-use Prim.Native.Nat.{◌≤◌, ◌-◌}
-use mathlib.Core.Path.{◌≡◌, refl}
-use mathlib.Core.Bool.{◌&&◌}
+use mathlib.Core.Path.{refl}
 use native.Mathlib.Omega.{arith}
-use lib.ListN.{length, drop}
-use Rattle.bits.specs.Ranges.{all_at_most}
 use Rattle.bits.proofs.Choices.{and_assoc, and_true}
 use Rattle.bits.proofs.Ranges.{at_most_step, at_most_end}
 use Rattle.bits.proofs.words_at_most.Goals as goal

@@ -1,11 +1,6 @@
-use Prim.Native.Nat.{◌+◌, ◌-◌}
-use mathlib.Core.Path.{refl, sym, ap, ◌∙◌}
-use native.Mathlib.Omega.{arith}
-use lib.Seq.{drop-drop}
-use Rattle.bits.specs.Bytes.{le}
+use Prim.Native.Nat.{◌-◌}
 use Rattle.machine.specs.Sizes.{semaphore_count}
-use Rattle.format.proofs.Joins.{le_byte}
-use Rattle.format.proofs.Runs.{Reading, reading_starts, reading_there, reading_goes, reading_ends}
+use Rattle.format.proofs.Runs.{Reading}
 use Rattle.image_layout.specs.Control.{semaphore_format}
 use Rattle.image_layout.specs.Places.{semaphores_at}
 use Rattle.image_control.proofs.read_semaphores.Given as goal

@@ -1,4 +1,3 @@
-use Prim.Native.Nat.{◌-◌}
 use mathlib.Core.Path.{◌≡◌}
 use native.Mathlib.Omega.{arith}
 use lib.ListN.{length, length-append}
@@ -6,9 +5,7 @@ use Rattle.bits.proofs.Bytes.{enc_long}
 use Rattle.machine.specs.Sizes.{semaphore_count}
 use Rattle.machine.proofs.Semaphores.{zero_semaphore}
 use Rattle.format.proofs.Writes.{wrote_to}
-use Rattle.format.proofs.Runs.{Writing, writing_starts, writing_room, writing_goes, writing_ends}
-use Rattle.image_layout.specs.Control.{semaphore_format}
-use Rattle.image_layout.specs.Places.{semaphores_at}
+use Rattle.format.proofs.Runs.{writing_starts, writing_room, writing_goes, writing_ends}
 use Rattle.std.proofs.Common.{rules}
 use Rattle.image_control.proofs.write_semaphores.Goals as goal
 

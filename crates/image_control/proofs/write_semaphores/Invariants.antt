@@ -1,12 +1,8 @@
 use Prim.Native.Nat.{◌-◌}
 use mathlib.Core.Path.{◌≡◌}
-use native.Mathlib.Omega.{arith}
-use lib.ListN.{length, length-append}
-use Rattle.bits.proofs.Bytes.{enc_long}
+use lib.ListN.{length}
 use Rattle.machine.specs.Sizes.{semaphore_count}
-use Rattle.machine.proofs.Semaphores.{zero_semaphore}
-use Rattle.format.proofs.Writes.{wrote_to}
-use Rattle.format.proofs.Runs.{Writing, writing_starts, writing_room, writing_goes, writing_ends}
+use Rattle.format.proofs.Runs.{Writing}
 use Rattle.image_layout.specs.Control.{semaphore_format}
 use Rattle.image_layout.specs.Places.{semaphores_at}
 use Rattle.image_control.proofs.write_semaphores.Given as goal

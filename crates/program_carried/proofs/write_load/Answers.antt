@@ -1,4 +1,3 @@
-
 use Rattle.program_carried.proofs.write_load.Goals as goal
 
 pub returns-in-NoLoad : goal.returns-in-NoLoad

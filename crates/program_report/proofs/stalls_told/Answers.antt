@@ -1,4 +1,3 @@
-
 use Rattle.program_report.proofs.stalls_told.Goals as goal
 
 pub returns-in-Finished : goal.returns-in-Finished

@@ -1,4 +1,3 @@
-
 use Rattle.step_offer.proofs.finished.Goals as goal
 
 pub returns : goal.returns

@@ -1,8 +1,5 @@
 use Rattle.text.proofs.Digits.{count_last, count_more, count_none}
-use Rattle.text.specs.Decimal.{digit_count, digits_most}
 use native.Mathlib.Omega.{arith}
-use mathlib.Core.Path.{◌≡◌}
-use Prim.Native.Nat.{◌+◌}
 use Rattle.text.proofs.digit_count.Goals as goal
 
 pub returns-then-m-lt10 : goal.returns-then-m-lt10

@@ -1,6 +1,4 @@
-use Rattle.text.proofs.Digits.{count_last, count_more, count_none}
 use Rattle.text.specs.Decimal.{digit_count, digits_most}
-use native.Mathlib.Omega.{arith}
 use mathlib.Core.Path.{◌≡◌}
 use Prim.Native.Nat.{◌+◌}
 use Rattle.text.proofs.digit_count.Given as goal

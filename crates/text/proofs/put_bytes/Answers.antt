@@ -1,9 +1,7 @@
 use Rattle.text.proofs.Digits.{bytes_next, bytes_done}
-use Rattle.bits.specs.Overwrite.{over}
-use lib.ListN.{drop, length, length-set}
+use lib.ListN.{length-set}
 use native.Mathlib.Omega.{arith}
-use mathlib.Core.Path.{◌≡◌, refl, sym, ◌∙◌}
-use Prim.Native.Nat.{◌+◌, ◌≤◌, ◌-◌}
+use mathlib.Core.Path.{refl, sym, ◌∙◌}
 use Rattle.text.proofs.put_bytes.Goals as goal
 
 pub loop-i-preserved : goal.loop-i-preserved

@@ -1,8 +1,6 @@
-use Rattle.text.proofs.Digits.{bytes_next, bytes_done}
 use Rattle.bits.specs.Overwrite.{over}
-use lib.ListN.{drop, length, length-set}
-use native.Mathlib.Omega.{arith}
-use mathlib.Core.Path.{◌≡◌, refl, sym, ◌∙◌}
+use lib.ListN.{drop, length}
+use mathlib.Core.Path.{◌≡◌}
 use Prim.Native.Nat.{◌+◌, ◌≤◌, ◌-◌}
 use Rattle.text.proofs.put_bytes.Given as goal
 

@@ -1,10 +1,7 @@
 use Rattle.text.proofs.Digits.{digits_next, digits_none}
-use Rattle.text.specs.Decimal.{last_digits}
-use Rattle.bits.specs.Overwrite.{over}
-use lib.ListN.{length, length-set}
+use lib.ListN.{length-set}
 use native.Mathlib.Omega.{arith}
-use mathlib.Core.Path.{◌≡◌, refl, sym, ◌∙◌}
-use Prim.Native.Nat.{◌≤◌}
+use mathlib.Core.Path.{refl, sym, ◌∙◌}
 use Rattle.text.proofs.put_digits.Goals as goal
 
 pub loop-left-preserved : goal.loop-left-preserved

@@ -1,9 +1,7 @@
-use Rattle.text.proofs.Digits.{digits_next, digits_none}
 use Rattle.text.specs.Decimal.{last_digits}
 use Rattle.bits.specs.Overwrite.{over}
-use lib.ListN.{length, length-set}
-use native.Mathlib.Omega.{arith}
-use mathlib.Core.Path.{◌≡◌, refl, sym, ◌∙◌}
+use lib.ListN.{length}
+use mathlib.Core.Path.{◌≡◌}
 use Prim.Native.Nat.{◌≤◌}
 use Rattle.text.proofs.put_digits.Given as goal
 

@@ -1,11 +1,9 @@
 use Rattle.text.proofs.Digits.{hex_long, in_next, in_none}
-use Rattle.text.specs.Digits.{last_digits_in}
-use Rattle.text.specs.Hex.{hex_digit, hex_digits, hex_word}
-use Rattle.bits.specs.Overwrite.{over}
-use lib.ListN.{length, length-set}
+use Rattle.text.specs.Hex.{hex_digit, hex_word}
+use lib.ListN.{length-set}
 use native.Mathlib.Omega.{arith}
-use mathlib.Core.Path.{◌≡◌, refl, sym, ap, ◌∙◌}
-use Prim.Native.Nat.{ℕ, ◌+◌, ◌≤◌}
+use mathlib.Core.Path.{refl, sym, ap, ◌∙◌}
+use Prim.Native.Nat.{ℕ, ◌+◌}
 use Rattle.text.proofs.put_hex_word.Goals as goal
 
 pub loop-left-init : goal.loop-left-init

@@ -1,11 +1,9 @@
-use Rattle.text.proofs.Digits.{hex_long, in_next, in_none}
 use Rattle.text.specs.Digits.{last_digits_in}
 use Rattle.text.specs.Hex.{hex_digit, hex_digits, hex_word}
 use Rattle.bits.specs.Overwrite.{over}
-use lib.ListN.{length, length-set}
-use native.Mathlib.Omega.{arith}
-use mathlib.Core.Path.{◌≡◌, refl, sym, ap, ◌∙◌}
-use Prim.Native.Nat.{ℕ, ◌+◌, ◌≤◌}
+use lib.ListN.{length}
+use mathlib.Core.Path.{◌≡◌}
+use Prim.Native.Nat.{◌≤◌}
 use Rattle.text.proofs.put_hex_word.Given as goal
 
 abbrev pub invariant-loop-left : goal.invariant-loop-left

@@ -1,4 +1,3 @@
-
 use Rattle.word_decode.proofs.decode_rmw_cib.Goals as goal
 
 pub returns : goal.returns

@@ -1,4 +1,4 @@
-use Rattle.std.proofs.Common.{arith, rules}
+use Rattle.std.proofs.Common.{arith}
 use Rattle.word_rules.proofs.Saying.{operand_b_in_range}
 use Rattle.word_scalar.proofs.Operating.{arithmetic_held, arithmetic_done}
 use Rattle.word_scalar.proofs.arithmetic.Goals as goal

@@ -1,4 +1,4 @@
-use Rattle.std.proofs.Common.{true, rules}
+use Rattle.std.proofs.Common.{true}
 use Rattle.word_rules.specs.ScalarWords.{scalar_after}
 use Rattle.word_rules.proofs.Offering.{store_held, store_going}
 use Rattle.word_scalar.proofs.dma_nop.Goals as goal

@@ -1,4 +1,4 @@
-use Rattle.std.proofs.Common.{true, sym, ◌∙◌, arith, rules}
+use Rattle.std.proofs.Common.{true, sym, ◌∙◌, arith}
 use Rattle.word_rules.specs.ScalarWords.{scalar_after}
 use Rattle.word_rules.proofs.Offering.{store_stopped, store_going}
 use Rattle.word_scalar.proofs.set_dma_reg.Goals as goal

@@ -1,12 +1,11 @@
 use Rattle.word_rules.proofs.Masks.{as_small, held_step, held_end}
-use Rattle.word_rules.specs.Waits.{semaphore_held}
 use Rattle.bits.specs.Field.{low_bit}
 use Rattle.machine.proofs.Semaphores.{zero_semaphore}
-use lib.ListN.{length, get_or, drop}
+use lib.ListN.{length, get_or}
 use borrow.Author.Tests.{eq-eqb, ne_eqb}
 use native.Mathlib.Omega.{arith}
-use mathlib.Core.Path.{◌≡◌, refl}
-use Prim.Native.Nat.{◌≤◌, ◌<◌, ◌-◌}
+use mathlib.Core.Path.{refl}
+use Prim.Native.Nat.{◌≤◌, ◌<◌}
 use Rattle.std.proofs.Common.{rules}
 use Rattle.word_waits.proofs.semaphore_held.Goals as goal
 

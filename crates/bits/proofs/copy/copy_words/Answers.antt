@@ -1,9 +1,7 @@
-use Prim.Native.Nat.{◌≤◌, ◌+◌, ◌-◌}
-use mathlib.Core.Path.{◌≡◌, sym, ◌∙◌}
+use mathlib.Core.Path.{sym, ◌∙◌}
 use native.Mathlib.Nat.{add-zero, sub-zero}
 use native.Mathlib.Omega.{arith}
-use lib.ListN.{length, length-set}
-use Rattle.bits.specs.Copies.{copied}
+use lib.ListN.{length-set}
 use Rattle.bits.proofs.Copies.{copied_step, copied_none}
 use Rattle.std.proofs.Common.{rules}
 use Rattle.bits.proofs.copy.copy_words.Goals as goal

@@ -1,10 +1,7 @@
 use Prim.Native.Nat.{◌≤◌, ◌+◌, ◌-◌}
-use mathlib.Core.Path.{◌≡◌, sym, ◌∙◌}
-use native.Mathlib.Nat.{add-zero, sub-zero}
-use native.Mathlib.Omega.{arith}
-use lib.ListN.{length, length-set}
+use mathlib.Core.Path.{◌≡◌}
+use lib.ListN.{length}
 use Rattle.bits.specs.Copies.{copied}
-use Rattle.bits.proofs.Copies.{copied_step, copied_none}
 use Rattle.bits.proofs.copy.copy_words.Given as goal
 
 abbrev pub invariant-loop-i : goal.invariant-loop-i

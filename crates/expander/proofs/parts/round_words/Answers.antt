@@ -1,4 +1,3 @@
-
 use Rattle.expander.proofs.parts.round_words.Goals as goal
 
 pub returns : goal.returns

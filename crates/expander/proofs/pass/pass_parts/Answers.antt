@@ -1,12 +1,8 @@
-use Prim.Native.Nat.{◌-◌, ◌≤◌}
-use mathlib.Core.Path.{◌≡◌, sym, ◌∙◌}
+use mathlib.Core.Path.{sym, ◌∙◌}
 use native.Mathlib.Omega.{arith}
-use lib.ListN.{length, length-take}
-use Rattle.expander_rules.specs.Sizes.{part_most}
-use Rattle.expander_rules.specs.Templates.{rounds}
-use Rattle.expander_rules.specs.Stream.{mop_words}
+use lib.ListN.{length-take}
 use Rattle.expander_rules.proofs.Rounds.{rounds_next, rounds_end}
-use Rattle.expander_replay.proofs.Passing.{Passing, passing_start, passing_part, passing_next, passing_done}
+use Rattle.expander_replay.proofs.Passing.{passing_start, passing_part, passing_next, passing_done}
 use Rattle.expander.specs.Parts.{mop_part}
 use Rattle.expander.proofs.MopParts.{parts_all}
 use Rattle.expander.proofs.pass.pass_parts.Goals as goal

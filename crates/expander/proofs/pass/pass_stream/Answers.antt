@@ -1,18 +1,14 @@
-use Prim.Native.Nat.{◌-◌, ◌≤◌}
 use mathlib.Core.Bool.{not}
-use mathlib.Core.Path.{◌≡◌, refl, sym, ap, ◌∙◌}
+use mathlib.Core.Path.{refl, sym, ap, ◌∙◌}
 use native.Mathlib.Omega.{arith}
-use lib.ListN.{length, get_or, drop}
-use Rattle.machine.specs.Answers.{accepted}
-use Rattle.expander_rules.specs.Sizes.{part_most}
-use Rattle.expander_rules.specs.Stream.{Emission, emission_of, stream_of}
+use lib.ListN.{get_or}
+use Rattle.expander_rules.specs.Stream.{Emission, emission_of}
 use Rattle.expander_rules.specs.Replay.{Buffer, buffer}
-use Rattle.expander_rules.specs.Call.{fault_of}
 use Rattle.expander_rules.proofs.Words.{words_next}
 use Rattle.expander_rules.proofs.StreamLaws.{stream_next, stream_end}
 use Rattle.expander_rules.proofs.ReplayLaws.{play_load}
 use Rattle.expander_rules.proofs.Faults.{sound_next}
-use Rattle.expander_replay.proofs.Passing.{Passing, passing_start, passing_part, passing_next, passing_done}
+use Rattle.expander_replay.proofs.Passing.{passing_start, passing_part, passing_next, passing_done}
 use Rattle.std.proofs.Common.{rules}
 use Rattle.expander.proofs.pass.pass_stream.Goals as goal
 

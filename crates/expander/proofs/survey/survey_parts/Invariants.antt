@@ -1,14 +1,11 @@
 use Prim.Native.Nat.{◌-◌, ◌≤◌}
-use mathlib.Core.Path.{◌≡◌, ◌∙◌}
-use native.Mathlib.Omega.{arith}
-use lib.ListN.{length, length-take}
+use mathlib.Core.Path.{◌≡◌}
+use lib.ListN.{length}
 use Rattle.expander_rules.specs.Sizes.{part_most}
 use Rattle.expander_rules.specs.Templates.{rounds}
 use Rattle.expander_rules.specs.Stream.{mop_words}
-use Rattle.expander_rules.proofs.Rounds.{rounds_next, rounds_end}
-use Rattle.expander_replay.proofs.Surveys.{Onward, onward_start, onward_next, onward_stopped, onward_done}
+use Rattle.expander_replay.proofs.Surveys.{Onward}
 use Rattle.expander.specs.Parts.{mop_part}
-use Rattle.expander.proofs.MopParts.{parts_all}
 use Rattle.expander.proofs.survey.survey_parts.Given as goal
 
 abbrev pub invariant-loop-o : goal.invariant-loop-o

@@ -1,17 +1,10 @@
-use Prim.Native.Nat.{◌+◌, ◌-◌, ◌≤◌}
-use mathlib.Core.Bool.{not, ◌&&◌}
-use mathlib.Core.List.{◌∷◌}
-use mathlib.Core.Path.{◌≡◌, refl, sym, ap, ◌∙◌}
-use native.Mathlib.Omega.{arith}
-use lib.ListN.{length, get_or, drop, drop_of_length-le}
-use Rattle.machine.proofs.Checks.{refused_accepted}
+use Prim.Native.Nat.{◌-◌, ◌≤◌}
+use mathlib.Core.Path.{◌≡◌}
+use lib.ListN.{length, drop}
 use Rattle.expander_rules.specs.Sizes.{part_most}
-use Rattle.expander_rules.specs.Stream.{is_template1, Emission, emission_of, stream_of}
-use Rattle.expander_rules.specs.Call.{over_rounds, fault_of}
-use Rattle.expander_rules.proofs.Words.{words_next}
-use Rattle.expander_rules.proofs.StreamLaws.{stream_next, stream_end}
-use Rattle.expander_rules.proofs.Faults.{fault_many, fault_bad, fault_next}
-use Rattle.expander_replay.proofs.Surveys.{Onward, onward_start, onward_next, onward_done}
+use Rattle.expander_rules.specs.Stream.{stream_of}
+use Rattle.expander_rules.specs.Call.{fault_of}
+use Rattle.expander_replay.proofs.Surveys.{Onward}
 use Rattle.expander.proofs.survey.survey_stream.Given as goal
 
 abbrev pub invariant-loop-i : goal.invariant-loop-i

@@ -1,8 +1,4 @@
-use Prim.Native.Nat.{◌+◌, ◌-◌, ◌≤◌}
-use mathlib.Core.Path.{◌≡◌}
 use native.Mathlib.Omega.{arith}
-use lib.ListN.{length, drop}
-use Rattle.expander_rules.specs.Counts.{stream_count}
 use Rattle.expander_rules.proofs.StreamLaws.{count_next, count_end}
 use Rattle.expander_mop.proofs.count.count_stream.Goals as goal
 

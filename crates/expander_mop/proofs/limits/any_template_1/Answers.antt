@@ -1,8 +1,5 @@
-use Prim.Native.Nat.{◌-◌, ◌≤◌}
-use mathlib.Core.Path.{◌≡◌}
 use native.Mathlib.Omega.{arith}
-use lib.ListN.{length, drop}
-use Rattle.expander_rules.specs.Stream.{is_template1, any_template1}
+use Rattle.expander_rules.specs.Stream.{is_template1}
 use Rattle.expander_rules.proofs.Words.{any_next, any_end}
 use Rattle.expander_mop.proofs.limits.any_template_1.Goals as goal
 

@@ -1,9 +1,7 @@
 use Prim.Native.Nat.{◌-◌, ◌≤◌}
 use mathlib.Core.Path.{◌≡◌}
-use native.Mathlib.Omega.{arith}
 use lib.ListN.{length, drop}
-use Rattle.expander_rules.specs.Stream.{is_template1, any_template1}
-use Rattle.expander_rules.proofs.Words.{any_next, any_end}
+use Rattle.expander_rules.specs.Stream.{any_template1}
 use Rattle.expander_mop.proofs.limits.any_template_1.Given as goal
 
 abbrev pub invariant-loop-i : goal.invariant-loop-i

@@ -1,4 +1,3 @@
-
 use Rattle.expander_mop.proofs.limits.bad_rounds.Goals as goal
 
 pub returns-then-over : goal.returns-then-over

@@ -1,10 +1,9 @@
-use Prim.Native.Nat.{◌-◌, ◌≤◌}
-use mathlib.Core.Path.{◌≡◌, refl, sym, ap, ◌∙◌}
+use mathlib.Core.Path.{refl, sym, ap, ◌∙◌}
 use native.Mathlib.Omega.{arith}
-use lib.ListN.{length, get_or, drop}
+use lib.ListN.{get_or}
 use Rattle.expander_rules.specs.Stream.{Emission, emission_of, stream_of}
 use Rattle.expander_rules.proofs.StreamLaws.{stream_next, stream_end}
-use Rattle.expander_templates.proofs.Writing.{Left, left_start, left_room, left_next, left_done}
+use Rattle.expander_templates.proofs.Writing.{left_start, left_room, left_next, left_done}
 use Rattle.expander_mop.proofs.stream.put_stream.Goals as goal
 
 pub loop-i-init : goal.loop-i-init

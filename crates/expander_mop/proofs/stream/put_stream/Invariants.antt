@@ -1,10 +1,8 @@
 use Prim.Native.Nat.{◌-◌, ◌≤◌}
-use mathlib.Core.Path.{◌≡◌, refl, sym, ap, ◌∙◌}
-use native.Mathlib.Omega.{arith}
-use lib.ListN.{length, get_or, drop}
-use Rattle.expander_rules.specs.Stream.{Emission, emission_of, stream_of}
-use Rattle.expander_rules.proofs.StreamLaws.{stream_next, stream_end}
-use Rattle.expander_templates.proofs.Writing.{Left, left_start, left_room, left_next, left_done}
+use mathlib.Core.Path.{◌≡◌}
+use lib.ListN.{length, drop}
+use Rattle.expander_rules.specs.Stream.{stream_of}
+use Rattle.expander_templates.proofs.Writing.{Left}
 use Rattle.expander_mop.proofs.stream.put_stream.Given as goal
 
 abbrev pub invariant-loop-i : goal.invariant-loop-i

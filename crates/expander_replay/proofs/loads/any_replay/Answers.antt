@@ -1,8 +1,5 @@
-use Prim.Native.Nat.{◌-◌, ◌≤◌}
-use mathlib.Core.Path.{◌≡◌}
 use native.Mathlib.Omega.{arith}
-use lib.ListN.{length, drop}
-use Rattle.expander_rules.specs.Stream.{is_replay, any_replay}
+use Rattle.expander_rules.specs.Stream.{is_replay}
 use Rattle.expander_rules.proofs.Words.{any_next, any_end}
 use Rattle.expander_replay.proofs.loads.any_replay.Goals as goal
 

@@ -1,4 +1,3 @@
-
 use Rattle.expander_replay.proofs.loads.is_loading.Goals as goal
 
 pub returns-in-Taking : goal.returns-in-Taking

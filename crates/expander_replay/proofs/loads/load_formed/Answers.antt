@@ -1,4 +1,3 @@
-
 use Rattle.expander_replay.proofs.loads.load_formed.Goals as goal
 
 pub returns-in-Taking : goal.returns-in-Taking

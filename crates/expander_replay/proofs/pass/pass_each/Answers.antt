@@ -1,10 +1,9 @@
-use Prim.Native.Nat.{◌-◌, ◌≤◌}
 use mathlib.Core.List.{[], ◌∷◌}
 use mathlib.Core.Path.{sym, ◌∙◌}
 use native.Mathlib.Omega.{arith}
-use lib.ListN.{length, get_or, drop, drop_of_length-le}
+use lib.ListN.{get_or, drop_of_length-le}
 use Rattle.expander_rules.proofs.Words.{words_next}
-use Rattle.expander_replay.proofs.Passing.{Passing, passing_start, passing_part, passing_next, passing_done}
+use Rattle.expander_replay.proofs.Passing.{passing_start, passing_part, passing_next, passing_done}
 use Rattle.expander_replay.proofs.pass.pass_each.Goals as goal
 
 pub loop-i-init : goal.loop-i-init

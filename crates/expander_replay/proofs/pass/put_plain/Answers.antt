@@ -1,9 +1,8 @@
-use Prim.Native.Nat.{◌-◌, ◌≤◌}
 use mathlib.Core.List.{[], ◌∷◌}
 use native.Mathlib.Omega.{arith}
-use lib.ListN.{length, get_or, drop, drop_of_length-le}
+use lib.ListN.{get_or, drop_of_length-le}
 use Rattle.expander_rules.proofs.Words.{words_next}
-use Rattle.expander_templates.proofs.Writing.{Left, left_start, left_room, left_next, left_done}
+use Rattle.expander_templates.proofs.Writing.{left_start, left_room, left_next, left_done}
 use Rattle.expander_replay.proofs.pass.put_plain.Goals as goal
 
 pub loop-i-init : goal.loop-i-init

@@ -1,11 +1,8 @@
-use Prim.Native.Nat.{◌<◌}
 use mathlib.Core.List.{[], ◌∷◌}
 use native.Mathlib.Omega.{arith}
 use lib.ListN.{get_or}
-use Rattle.expander_rules.specs.Sizes.{slot_count}
-use Rattle.expander_rules.specs.Replay.{slots_from}
 use Rattle.expander_rules.proofs.ReplayLaws.{slots_next, slots_end}
-use Rattle.expander_templates.proofs.Writing.{Left, left_start, left_room, left_next, left_done}
+use Rattle.expander_templates.proofs.Writing.{left_start, left_room, left_next, left_done}
 use Rattle.expander_replay.proofs.pass.put_slots.Goals as goal
 
 pub loop-left-init : goal.loop-left-init

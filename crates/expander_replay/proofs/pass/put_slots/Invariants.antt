@@ -1,11 +1,7 @@
 use Prim.Native.Nat.{◌<◌}
-use mathlib.Core.List.{[], ◌∷◌}
-use native.Mathlib.Omega.{arith}
-use lib.ListN.{get_or}
 use Rattle.expander_rules.specs.Sizes.{slot_count}
 use Rattle.expander_rules.specs.Replay.{slots_from}
-use Rattle.expander_rules.proofs.ReplayLaws.{slots_next, slots_end}
-use Rattle.expander_templates.proofs.Writing.{Left, left_start, left_room, left_next, left_done}
+use Rattle.expander_templates.proofs.Writing.{Left}
 use Rattle.expander_replay.proofs.pass.put_slots.Given as goal
 
 abbrev pub invariant-loop-left : goal.invariant-loop-left

@@ -1,9 +1,8 @@
-use Prim.Native.Nat.{◌-◌, ◌≤◌}
 use mathlib.Core.List.{[], ◌∷◌}
 use native.Mathlib.Omega.{arith}
-use lib.ListN.{length, get_or, drop, drop_of_length-le}
+use lib.ListN.{get_or, drop_of_length-le}
 use Rattle.expander_rules.proofs.Words.{words_next}
-use Rattle.expander_replay.proofs.Surveys.{Onward, onward_start, onward_next, onward_stopped, onward_done}
+use Rattle.expander_replay.proofs.Surveys.{onward_start, onward_next, onward_stopped, onward_done}
 use Rattle.expander_replay.proofs.survey.survey_each.Goals as goal
 
 pub loop-i-init : goal.loop-i-init

@@ -1,9 +1,6 @@
 use Prim.Native.Nat.{◌+◌, ◌*◌, ◌-◌, ◌≤◌}
-use mathlib.Core.Logic.{⊎_elim}
 use mathlib.Core.Path.{◌≡◌}
-use native.Mathlib.Omega.{arith}
 use Rattle.expander_rules.specs.Counts.{outer_count}
-use Rattle.expander_rules.proofs.Rounds.{round_within, rounds_over}
 use Rattle.expander_templates.proofs.count.count_rounds.Given as goal
 
 abbrev pub invariant-loop-j : goal.invariant-loop-j

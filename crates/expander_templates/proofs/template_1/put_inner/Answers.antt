@@ -1,11 +1,10 @@
-use Prim.Native.Nat.{◌-◌, ◌≤◌}
 use mathlib.Core.List.{[], ◌∷◌}
 use mathlib.Core.Path.{refl, ◌∙◌}
 use native.Mathlib.Nat.{sub-zero}
 use native.Mathlib.Omega.{arith}
 use Rattle.expander_rules.specs.Templates.{nth, rounds, inner_round}
 use Rattle.expander_rules.proofs.Rounds.{inner_next, inner_last, rounds_none}
-use Rattle.expander_templates.proofs.Writing.{Left, left_start, left_room, left_next, left_done, wrote_none}
+use Rattle.expander_templates.proofs.Writing.{left_start, left_room, left_next, left_done, wrote_none}
 use Rattle.expander_templates.proofs.template_1.put_inner.Goals as goal
 
 pub returns-then-count-eq0 : goal.returns-then-count-eq0

@@ -1,9 +1,6 @@
 use Prim.Native.Nat.{◌-◌, ◌≤◌}
-use native.Mathlib.Nat.{sub-zero}
-use native.Mathlib.Omega.{arith}
 use Rattle.expander_rules.specs.Templates.{nth, rounds, outer_round, template1}
-use Rattle.expander_rules.proofs.Rounds.{rounds_next, rounds_end}
-use Rattle.expander_templates.proofs.Writing.{Left, left_start, left_room, left_next, left_done}
+use Rattle.expander_templates.proofs.Writing.{Left}
 use Rattle.expander_templates.proofs.template_1.put_template_1.Given as goal
 
 abbrev pub invariant-loop-o : goal.invariant-loop-o

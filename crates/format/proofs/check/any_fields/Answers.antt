@@ -1,8 +1,5 @@
 use Rattle.format.proofs.Fields.{any_some, any_all}
-use Rattle.bits.specs.Bytes.{Bytes}
 use Rattle.bits.proofs.Bytes.{bytes_drop}
-use Prim.Native.Nat.{ℕ}
-use mathlib.Core.List.{List}
 use lib.ListN.{drop}
 use native.Mathlib.Omega.{arith}
 use Rattle.format.proofs.check.any_fields.Goals as goal

@@ -1,7 +1,5 @@
-use Prim.Native.Nat.{◌-◌}
 use native.Mathlib.Omega.{arith}
-use Rattle.format.specs.Format.{num_good}
-use Rattle.format.proofs.Fields.{Checking, checking_starts, checking_left, checking_goes, checking_stops, checking_ends}
+use Rattle.format.proofs.Fields.{checking_starts, checking_left, checking_goes, checking_stops, checking_ends}
 use Rattle.format.proofs.check.fields.Goals as goal
 
 pub returns-then-g-w : goal.returns-then-g-w

@@ -1,7 +1,6 @@
 use Prim.Native.Nat.{◌-◌}
-use native.Mathlib.Omega.{arith}
 use Rattle.format.specs.Format.{num_good}
-use Rattle.format.proofs.Fields.{Checking, checking_starts, checking_left, checking_goes, checking_stops, checking_ends}
+use Rattle.format.proofs.Fields.{Checking}
 use Rattle.format.proofs.check.fields.Given as goal
 
 abbrev pub invariant-loop-i : goal.invariant-loop-i

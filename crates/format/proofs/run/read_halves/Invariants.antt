@@ -1,9 +1,7 @@
 use Prim.Native.Nat.{◌-◌}
-use mathlib.Core.Path.{refl}
-use native.Mathlib.Omega.{arith}
 use lib.ListN.{length}
 use Rattle.bits.specs.Bytes.{le}
-use Rattle.format.proofs.Runs.{Reading, reading_starts, reading_there, reading_goes, reading_ends}
+use Rattle.format.proofs.Runs.{Reading}
 use Rattle.format.proofs.run.read_halves.Given as goal
 
 abbrev pub invariant-loop-i : goal.invariant-loop-i

@@ -1,9 +1,6 @@
-use Prim.Native.Nat.{◌-◌}
 use mathlib.Core.Path.{refl}
 use native.Mathlib.Omega.{arith}
-use lib.ListN.{length}
-use Rattle.bits.specs.Bytes.{le}
-use Rattle.format.proofs.Runs.{Reading, reading_starts, reading_there, reading_goes, reading_ends}
+use Rattle.format.proofs.Runs.{reading_starts, reading_there, reading_goes, reading_ends}
 use Rattle.format.proofs.run.read_words.Goals as goal
 
 pub read-requires : goal.read-requires

@@ -1,9 +1,6 @@
-use Prim.Native.Nat.{◌-◌}
 use native.Mathlib.Omega.{arith}
-use lib.ListN.{length}
-use Rattle.bits.specs.Bytes.{enc}
 use Rattle.bits.proofs.Bytes.{enc_long}
-use Rattle.format.proofs.Runs.{Writing, writing_starts, writing_room, writing_goes, writing_ends}
+use Rattle.format.proofs.Runs.{writing_starts, writing_room, writing_goes, writing_ends}
 use Rattle.format.proofs.run.write_halves.Goals as goal
 
 pub write_half-requires : goal.write_half-requires

@@ -1,9 +1,7 @@
 use Prim.Native.Nat.{◌-◌}
-use native.Mathlib.Omega.{arith}
 use lib.ListN.{length}
 use Rattle.bits.specs.Bytes.{enc}
-use Rattle.bits.proofs.Bytes.{enc_long}
-use Rattle.format.proofs.Runs.{Writing, writing_starts, writing_room, writing_goes, writing_ends}
+use Rattle.format.proofs.Runs.{Writing}
 use Rattle.format.proofs.run.write_words.Given as goal
 
 abbrev pub invariant-loop-i : goal.invariant-loop-i

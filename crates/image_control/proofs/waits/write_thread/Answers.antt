@@ -1,4 +1,3 @@
-
 use Rattle.image_control.proofs.waits.write_thread.Goals as goal
 
 pub returns-in-Clear : goal.returns-in-Clear

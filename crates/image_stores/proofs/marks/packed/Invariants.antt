@@ -1,9 +1,7 @@
-use Prim.Native.Nat.{ℕ, ◌+◌, ◌-◌, ◌*◌, ◌≤◌, ◌<◌}
-use mathlib.Core.Path.{◌≡◌, refl, sym, ap₂, ◌∙◌}
-use native.Mathlib.Omega.{arith}
+use Prim.Native.Nat.{◌+◌, ◌-◌, ◌≤◌}
+use mathlib.Core.Path.{◌≡◌}
 use lib.ListN.{drop}
 use Rattle.image_layout.specs.Marks.{pack}
-use Rattle.image_layout.proofs.MarkLaws.{pack_small, pack_next}
 use Rattle.image_stores.proofs.marks.packed.Given as goal
 
 abbrev pub invariant-loop-i : goal.invariant-loop-i

@@ -1,10 +1,8 @@
-use Prim.Native.Nat.{◌+◌, ◌-◌, ◌*◌, ◌≤◌}
+use Prim.Native.Nat.{◌+◌, ◌-◌, ◌*◌}
 use mathlib.Core.Path.{◌≡◌, sym, ◌∙◌}
 use native.Mathlib.Omega.{arith}
-use lib.ListN.{length, drop}
-use Rattle.bits.specs.Overwrite.{over}
+use lib.ListN.{drop}
 use Rattle.bits.proofs.Overwrite.{over_none, over_whole}
-use Rattle.machine.specs.Sizes.{mark_count}
 use Rattle.format.specs.Format.{many_get}
 use Rattle.image_layout.specs.Marks.{joined_eights}
 use Rattle.image_layout.specs.Image.{marks_size}

@@ -1,8 +1,7 @@
-use Prim.Native.Nat.{◌+◌, ◌-◌, ◌≤◌}
+use Prim.Native.Nat.{◌+◌, ◌-◌}
 use mathlib.Core.Path.{◌≡◌, refl, sym, ◌∙◌}
 use native.Mathlib.Omega.{arith}
-use lib.ListN.{length, length-set}
-use Rattle.bits.specs.Overwrite.{over}
+use lib.ListN.{length-set}
 use Rattle.bits.proofs.Overwrite.{over_none}
 use Rattle.image_layout.specs.Marks.{unpack}
 use Rattle.image_layout.proofs.MarkLaws.{unpack_next}

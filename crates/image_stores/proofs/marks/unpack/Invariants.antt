@@ -1,11 +1,8 @@
 use Prim.Native.Nat.{◌+◌, ◌-◌, ◌≤◌}
-use mathlib.Core.Path.{◌≡◌, refl, sym, ◌∙◌}
-use native.Mathlib.Omega.{arith}
-use lib.ListN.{length, length-set}
+use mathlib.Core.Path.{◌≡◌}
+use lib.ListN.{length}
 use Rattle.bits.specs.Overwrite.{over}
-use Rattle.bits.proofs.Overwrite.{over_none}
 use Rattle.image_layout.specs.Marks.{unpack}
-use Rattle.image_layout.proofs.MarkLaws.{unpack_next}
 use Rattle.image_stores.proofs.marks.unpack.Given as goal
 
 abbrev pub invariant-loop-i : goal.invariant-loop-i

@@ -1,10 +1,9 @@
 use Rattle.machine.proofs.Semaphores.{semaphores_step, semaphores_end}
-use Rattle.machine.specs.Formed.{semaphores_formed}
-use lib.ListN.{length, drop}
+use lib.ListN.{length}
 use borrow.Author.Tests.{le-leb, lt-leb}
 use native.Mathlib.Omega.{arith}
-use mathlib.Core.Path.{◌≡◌, refl}
-use Prim.Native.Nat.{◌≤◌, ◌<◌, ◌-◌}
+use mathlib.Core.Path.{refl}
+use Prim.Native.Nat.{◌≤◌, ◌<◌}
 use Rattle.std.proofs.Common.{rules}
 use Rattle.machine_formed.proofs.control.semaphores_formed.Goals as goal
 

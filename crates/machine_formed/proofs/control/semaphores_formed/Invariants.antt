@@ -1,10 +1,7 @@
-use Rattle.machine.proofs.Semaphores.{semaphores_step, semaphores_end}
 use Rattle.machine.specs.Formed.{semaphores_formed}
 use lib.ListN.{length, drop}
-use borrow.Author.Tests.{le-leb, lt-leb}
-use native.Mathlib.Omega.{arith}
-use mathlib.Core.Path.{◌≡◌, refl}
-use Prim.Native.Nat.{◌≤◌, ◌<◌, ◌-◌}
+use mathlib.Core.Path.{◌≡◌}
+use Prim.Native.Nat.{◌≤◌, ◌-◌}
 use Rattle.machine_formed.proofs.control.semaphores_formed.Given as goal
 
 abbrev pub invariant-loop-i : goal.invariant-loop-i

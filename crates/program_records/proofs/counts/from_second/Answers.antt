@@ -1,4 +1,3 @@
-
 use Rattle.program_records.proofs.counts.from_second.Goals as goal
 
 pub returns-in-NoWords : goal.returns-in-NoWords

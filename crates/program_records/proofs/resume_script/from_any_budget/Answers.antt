@@ -1,4 +1,3 @@
-
 use Rattle.program_records.proofs.resume_script.from_any_budget.Goals as goal
 
 pub returns-in-NoBudget : goal.returns-in-NoBudget

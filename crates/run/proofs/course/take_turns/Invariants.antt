@@ -1,10 +1,8 @@
 use Prim.Native.Nat.{◌-◌}
-use native.Mathlib.Omega.{arith}
 use Rattle.machine.specs.Machine.{machine}
 use Rattle.run_order.specs.Cursor.{streams}
 use Rattle.run_order.specs.Stalls.{told_pairs}
-use Rattle.run_rules.proofs.Halting.{due_after}
-use Rattle.run_rules.proofs.Going.{Going, going_start, going_ends, going_refused, going_on}
+use Rattle.run_rules.proofs.Going.{Going}
 use Rattle.run.proofs.course.take_turns.Given as goal
 
 abbrev pub invariant-loop-answer : goal.invariant-loop-answer

@@ -1,10 +1,6 @@
-use Prim.Native.Nat.{◌≤◌, ◌-◌}
-use mathlib.Core.List.{◌++◌}
-use mathlib.Core.Path.{◌≡◌, sym, ◌∙◌, refl}
+use mathlib.Core.Path.{sym, ◌∙◌, refl}
 use native.Mathlib.Omega.{arith}
-use lib.ListN.{length, take, length-set}
-use Rattle.bits.specs.Values.{values}
-use Rattle.word_rules.specs.Face.{cell_of, column_of}
+use lib.ListN.{length-set}
 use Rattle.bits.proofs.Values.{fill_step, fill_end}
 use Rattle.word_cell.proofs.face.column_of.Goals as goal
 

@@ -1,10 +1,6 @@
-use Prim.Native.Nat.{◌≤◌, ◌+◌, ◌-◌}
-use mathlib.Core.List.{◌++◌}
-use mathlib.Core.Path.{◌≡◌, sym, ◌∙◌, refl}
+use mathlib.Core.Path.{sym, ◌∙◌, refl}
 use native.Mathlib.Omega.{arith}
-use lib.ListN.{length, take, get_or, length-set}
-use Rattle.bits.specs.Values.{values}
-use Rattle.word_rules.specs.Face.{row_at}
+use lib.ListN.{length-set}
 use Rattle.bits.proofs.Values.{fill_step, fill_end}
 use Rattle.word_cell.proofs.face.row_at.Goals as goal
 

@@ -1,11 +1,9 @@
 use Prim.Native.Nat.{◌≤◌, ◌-◌}
 use mathlib.Core.List.{◌++◌}
-use mathlib.Core.Path.{◌≡◌, sym, ◌∙◌}
-use native.Mathlib.Omega.{arith}
-use lib.ListN.{length, take, length-set}
+use mathlib.Core.Path.{◌≡◌}
+use lib.ListN.{length, take}
 use Rattle.bits.specs.Values.{values}
 use Rattle.word_rules.specs.Face.{column_of, transposed}
-use Rattle.bits.proofs.Values.{fill_step, fill_end}
 use Rattle.word_cell.proofs.face.transpose.Given as goal
 
 abbrev pub invariant-loop-r : goal.invariant-loop-r

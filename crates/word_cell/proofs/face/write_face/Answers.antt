@@ -1,9 +1,8 @@
-use Prim.Native.Nat.{◌≤◌, ◌+◌, ◌-◌, ◌*◌, ◌<◌}
+use Prim.Native.Nat.{◌<◌}
 use mathlib.Core.Path.{◌≡◌, sym, ◌∙◌}
 use native.Mathlib.Omega.{arith}
 use native.Mathlib.Nat.{add-zero}
-use lib.ListN.{length, drop}
-use Rattle.word_rules.specs.Face.{with_rows}
+use lib.ListN.{length}
 use Rattle.word_rules.proofs.FaceLaws.{rows_step, rows_end}
 use Rattle.std.proofs.Common.{rules}
 use Rattle.word_cell.proofs.face.write_face.Goals as goal

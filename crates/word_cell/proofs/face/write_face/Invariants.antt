@@ -1,10 +1,7 @@
-use Prim.Native.Nat.{◌≤◌, ◌+◌, ◌-◌, ◌*◌, ◌<◌}
-use mathlib.Core.Path.{◌≡◌, sym, ◌∙◌}
-use native.Mathlib.Omega.{arith}
-use native.Mathlib.Nat.{add-zero}
+use Prim.Native.Nat.{◌≤◌, ◌+◌, ◌-◌, ◌*◌}
+use mathlib.Core.Path.{◌≡◌}
 use lib.ListN.{length, drop}
 use Rattle.word_rules.specs.Face.{with_rows}
-use Rattle.word_rules.proofs.FaceLaws.{rows_step, rows_end}
 use Rattle.word_cell.proofs.face.write_face.Given as goal
 
 abbrev pub invariant-loop-r : goal.invariant-loop-r

@@ -1,4 +1,3 @@
-
 use Rattle.word_cell.proofs.fields.place_fine.Goals as goal
 
 pub returns : goal.returns

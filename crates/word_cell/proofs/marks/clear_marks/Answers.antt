@@ -1,10 +1,6 @@
-use Prim.Native.Nat.{◌+◌, ◌-◌, ◌≤◌}
-use mathlib.Core.Path.{◌≡◌, sym, ◌∙◌}
-use mathlib.Core.Bool.{false}
+use mathlib.Core.Path.{sym, ◌∙◌}
 use native.Mathlib.Nat.{add-zero, sub-zero}
 use native.Mathlib.Omega.{arith}
-use lib.ListN.{length, replicate}
-use Rattle.bits.specs.Overwrite.{over}
 use Rattle.bits.proofs.Overwrite.{fill_step, fill_done}
 use Rattle.std.proofs.Common.{rules}
 use Rattle.word_cell.proofs.marks.clear_marks.Goals as goal

@@ -1,11 +1,8 @@
 use Prim.Native.Nat.{◌+◌, ◌-◌, ◌≤◌}
-use mathlib.Core.Path.{◌≡◌, sym, ◌∙◌}
+use mathlib.Core.Path.{◌≡◌}
 use mathlib.Core.Bool.{false}
-use native.Mathlib.Nat.{add-zero, sub-zero}
-use native.Mathlib.Omega.{arith}
 use lib.ListN.{length, replicate}
 use Rattle.bits.specs.Overwrite.{over}
-use Rattle.bits.proofs.Overwrite.{fill_step, fill_done}
 use Rattle.word_cell.proofs.marks.clear_marks.Given as goal
 
 abbrev pub invariant-loop-i : goal.invariant-loop-i

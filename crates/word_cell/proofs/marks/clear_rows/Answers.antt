@@ -1,8 +1,6 @@
-use Prim.Native.Nat.{◌≤◌, ◌+◌, ◌-◌}
+use Prim.Native.Nat.{◌+◌, ◌-◌}
 use mathlib.Core.Path.{◌≡◌, sym, ◌∙◌}
 use native.Mathlib.Omega.{arith}
-use lib.ListN.{length}
-use Rattle.word_rules.specs.Marks.{clear_rows}
 use Rattle.word_rules.proofs.MarkLaws.{clear_step, clear_none, view_at_most}
 use Rattle.std.proofs.Common.{rules}
 use Rattle.word_cell.proofs.marks.clear_rows.Goals as goal

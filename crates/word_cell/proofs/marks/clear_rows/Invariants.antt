@@ -1,9 +1,7 @@
 use Prim.Native.Nat.{◌≤◌, ◌+◌, ◌-◌}
-use mathlib.Core.Path.{◌≡◌, sym, ◌∙◌}
-use native.Mathlib.Omega.{arith}
+use mathlib.Core.Path.{◌≡◌}
 use lib.ListN.{length}
 use Rattle.word_rules.specs.Marks.{clear_rows}
-use Rattle.word_rules.proofs.MarkLaws.{clear_step, clear_none, view_at_most}
 use Rattle.word_cell.proofs.marks.clear_rows.Given as goal
 
 abbrev pub invariant-loop-row : goal.invariant-loop-row

@@ -1,4 +1,3 @@
-
 use Rattle.word_cell.proofs.rows.copy_rows.Goals as goal
 
 pub returns-then-four : goal.returns-then-four

@@ -1,4 +1,3 @@
-
 use Rattle.word_control.proofs.fields.mutex_fine.Goals as goal
 
 pub returns : goal.returns

@@ -1,10 +1,8 @@
 use Rattle.word_rules.proofs.Masks.{change_step, change_end}
-use Rattle.word_rules.specs.SyncWords.{change_masked}
-use lib.ListN.{length, drop, take, set, length-set}
-use mathlib.Core.List.{◌++◌}
+use lib.ListN.{length, set, length-set}
 use native.Mathlib.Omega.{arith}
 use mathlib.Core.Path.{◌≡◌, refl, sym, ◌∙◌}
-use Prim.Native.Nat.{◌≤◌, ◌<◌, ◌-◌}
+use Prim.Native.Nat.{◌<◌}
 use Rattle.std.proofs.Common.{rules}
 use Rattle.word_control.proofs.semaphores.change_masked.Goals as goal
 

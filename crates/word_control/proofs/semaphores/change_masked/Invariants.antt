@@ -1,10 +1,8 @@
-use Rattle.word_rules.proofs.Masks.{change_step, change_end}
 use Rattle.word_rules.specs.SyncWords.{change_masked}
-use lib.ListN.{length, drop, take, set, length-set}
+use lib.ListN.{length, drop, take}
 use mathlib.Core.List.{◌++◌}
-use native.Mathlib.Omega.{arith}
-use mathlib.Core.Path.{◌≡◌, refl, sym, ◌∙◌}
-use Prim.Native.Nat.{◌≤◌, ◌<◌, ◌-◌}
+use mathlib.Core.Path.{◌≡◌}
+use Prim.Native.Nat.{◌≤◌, ◌-◌}
 use Rattle.word_control.proofs.semaphores.change_masked.Given as goal
 
 abbrev pub invariant-loop-i : goal.invariant-loop-i

@@ -1,4 +1,3 @@
-
 use Rattle.word_control.proofs.semaphores.change_semaphores.Goals as goal
 
 pub returns : goal.returns

@@ -1,4 +1,3 @@
-
 use Rattle.word_control.proofs.wait_words.drop_if.Goals as goal
 
 pub returns-then-drops : goal.returns-then-drops

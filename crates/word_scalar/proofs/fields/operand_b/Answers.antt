@@ -1,4 +1,4 @@
-use Rattle.std.proofs.Common.{rules, eq-eqb, ne_eqb}
+use Rattle.std.proofs.Common.{eq-eqb, ne_eqb}
 use Rattle.word_scalar.proofs.fields.operand_b.Goals as goal
 
 pub returns-then-word-eq1 : goal.returns-then-word-eq1

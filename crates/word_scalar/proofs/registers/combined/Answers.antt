@@ -1,4 +1,4 @@
-use Rattle.std.proofs.Common.{◌*◌, ◌%◌, ◌≤◌, mul-le-mul, div-one, arith, rules}
+use Rattle.std.proofs.Common.{◌*◌, ◌%◌, ◌≤◌, mul-le-mul, div-one, arith}
 use Rattle.word_scalar.proofs.registers.combined.Goals as goal
 
 pub overflow_mul-result : goal.overflow_mul-result

@@ -1,4 +1,4 @@
-use Rattle.std.proofs.Common.{arith, rules}
+use Rattle.std.proofs.Common.{arith}
 use Rattle.word_scalar.proofs.registers.operand_of.Goals as goal
 
 pub gpr_place-requires : goal.gpr_place-requires

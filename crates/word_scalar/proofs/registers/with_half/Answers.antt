@@ -1,4 +1,4 @@
-use Rattle.std.proofs.Common.{arith, rules}
+use Rattle.std.proofs.Common.{arith}
 use Rattle.word_scalar.proofs.registers.with_half.Goals as goal
 
 pub returns-then-is_high : goal.returns-then-is_high

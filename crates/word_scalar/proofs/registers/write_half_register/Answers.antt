@@ -1,4 +1,3 @@
-use Rattle.std.proofs.Common.{rules}
 use Rattle.word_scalar.proofs.registers.write_half_register.Goals as goal
 
 pub returns : goal.returns
