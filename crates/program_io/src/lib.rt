@@ -59,9 +59,9 @@ mod tests {
         let mut input: &[u8] = b"abcdefg";
         let mut four = [0u8; 4];
         assert_eq!(rt; read_full(&mut input, &mut four)?, 4);
-        assert_eq!(rt; &four[..], b"abcd");
+        assert_eq!(rt; &four[..], b"abcd".as_slice());
         assert_eq!(rt; read_full(&mut input, &mut four)?, 3);
-        assert_eq!(rt; &four[..], b"efgd");
+        assert_eq!(rt; &four[..], b"efgd".as_slice());
         assert_eq!(rt; read_full(&mut input, &mut four)?, 0);
         Ok(())
     }
@@ -71,7 +71,7 @@ mod tests {
         let mut input = Failing { left: 2 };
         let mut six = [0u8; 6];
         assert!(rt; read_full(&mut input, &mut six).is_err());
-        assert_eq!(rt; &six[..], &[7u8, 8, 7, 8, 0, 0]);
+        assert_eq!(rt; &six[..], [7u8, 8, 7, 8, 0, 0].as_slice());
         assert!(rt; read_full(&mut input, &mut six).is_err());
     }
 }
