@@ -4,25 +4,30 @@
 ghost use Rattle.std.specs.Prelude.{◌≡◌, ◌≤◌, length};
 ghost use Rattle.program_resume.specs.Resume.{resume_reads, resume_room};
 
-use libc::{STDIN_FILENO, STDOUT_FILENO};
+use program_io::read_full;
 use program_resume::{RESUME_READS, RESUME_ROOM};
+use std::io;
 
 // Answers the input. The room that it is read into has just the bytes of which `LongResumes` says that no further one counts.
-fn answer(room: &mut [u8], out: &mut [u8])
+fn answer(rt: &HostRuntime, room: &mut [u8], out: &mut [u8]) -> io::Result<()>
     requires { (length room.old ≡ resume_reads) × (resume_room ≤ length out.old) }
 {
-    let n = io::read_full(STDIN_FILENO, room);
+    let n = read_full(&mut rt.stdin(), room)?;
     let m = program_resume::resume(&room[..n], out);
-    io::write_all(STDOUT_FILENO, &out[..m]);
+    rt.write_all(&out[..m])
 }
 
 // The same, in arrays that are lent whole.
-fn answer_in(room: &mut [u8; RESUME_READS], out: &mut [u8; RESUME_ROOM]) {
-    answer(room, out);
+fn answer_in(
+    rt: &HostRuntime,
+    room: &mut [u8; RESUME_READS],
+    out: &mut [u8; RESUME_ROOM],
+) -> io::Result<()> {
+    answer(rt, room, out)
 }
 
-fn main() {
+fn main(rt: HostRuntime) -> io::Result<()> {
     let mut room = [0u8; RESUME_READS];
     let mut out = [0u8; RESUME_ROOM];
-    answer_in(&mut room, &mut out);
+    answer_in(&rt, &mut room, &mut out)
 }

@@ -5,47 +5,56 @@ use crate::print;
 use machine::access::Access;
 use machine::control::Control;
 use machine::sizes::{BANK_WORDS, CELL_MOST, CONFIG_WORDS, ROW_CELLS};
+use std::io;
 use test_machines::controls::draw_control;
 use test_machines::fills::{fill_halves, fill_marks, fill_words};
 use test_machines::number::set_number;
 use test_machines::sums;
 
 // The line of the stores, with a checksum of them all.
-fn print_stores(gprs: &[u32], dest: &[u16], marks: &[bool], src_a: &[u32], src_b: &[u32]) {
+fn print_stores(
+    rt: &HostRuntime,
+    gprs: &[u32],
+    dest: &[u16],
+    marks: &[bool],
+    src_a: &[u32],
+    src_b: &[u32],
+) -> io::Result<()> {
     let words = sums::add_words(sums::start(), gprs);
     let rows = sums::add_marks(sums::add_halves(words, dest), marks);
     let all = sums::add_words(sums::add_words(rows, src_a), src_b);
-    print::print_filled(sums::checksum(all));
+    print::print_filled(rt, sums::checksum(all))
 }
 
 // The stores from the seed.
 pub(crate) fn refill(
+    rt: &HostRuntime,
     case: Case,
     gprs: &mut [u32],
     dest: &mut [u16],
     marks: &mut [bool],
     src_a: &mut [u32],
     src_b: &mut [u32],
-) {
+) -> io::Result<()> {
     let one = fill_words(case.seed, u32::MAX, gprs);
     let two = fill_halves(one, dest);
     let three = fill_marks(two, marks);
     let four = fill_words(three, CELL_MOST, src_a);
     fill_words(four, CELL_MOST, src_b);
-    print_stores(gprs, dest, marks, src_a, src_b);
+    print_stores(rt, gprs, dest, marks, src_a, src_b)
 }
 
-pub(crate) fn read_gpr(case: Case, gprs: &[u32]) {
+pub(crate) fn read_gpr(rt: &HostRuntime, case: Case, gprs: &[u32]) -> io::Result<()> {
     let n = lent(gprs.len(), case.lengths, 0);
     let answer = bench_gprs::read_gpr(&gprs[..n], case.first, case.second);
-    print::print_read(answer);
+    print::print_read(rt, answer)
 }
 
-pub(crate) fn write_gpr(case: Case, gprs: &mut [u32]) {
+pub(crate) fn write_gpr(rt: &HostRuntime, case: Case, gprs: &mut [u32]) -> io::Result<()> {
     let n = lent(gprs.len(), case.lengths, 0);
     let answer = bench_gprs::write_gpr(&mut gprs[..n], case.first, case.second, case.third);
     let sum = sums::add_words(sums::start(), gprs);
-    print::print_access(answer, sums::checksum(sum));
+    print::print_access(rt, answer, sums::checksum(sum))
 }
 
 // The flag words of both banks.
@@ -57,12 +66,18 @@ pub(crate) fn set_flags(config: &mut [u32], left: u32, right: u32) {
 }
 
 // The line of a call that reads a row.
-fn print_row16(answer: Access, out: &[u16; ROW_CELLS + 1]) {
+fn print_row16(rt: &HostRuntime, answer: Access, out: &[u16; ROW_CELLS + 1]) -> io::Result<()> {
     let sum = sums::add_halves(sums::start(), out);
-    print::print_access(answer, sums::checksum(sum));
+    print::print_access(rt, answer, sums::checksum(sum))
 }
 
-pub(crate) fn read_row16(case: Case, config: &[u32], dest: &[u16], marks: &[bool]) {
+pub(crate) fn read_row16(
+    rt: &HostRuntime,
+    case: Case,
+    config: &[u32],
+    dest: &[u16],
+    marks: &[bool],
+) -> io::Result<()> {
     let mut out = [0u16; ROW_CELLS + 1];
     fill_halves(case.seed, &mut out);
     let c = lent(config.len(), case.lengths, 0);
@@ -77,16 +92,22 @@ pub(crate) fn read_row16(case: Case, config: &[u32], dest: &[u16], marks: &[bool
         case.second,
         &mut out[..n],
     );
-    print_row16(answer, &out);
+    print_row16(rt, answer, &out)
 }
 
 // The line of a call that reads a row.
-fn print_row32(answer: Access, out: &[u32; ROW_CELLS + 1]) {
+fn print_row32(rt: &HostRuntime, answer: Access, out: &[u32; ROW_CELLS + 1]) -> io::Result<()> {
     let sum = sums::add_words(sums::start(), out);
-    print::print_access(answer, sums::checksum(sum));
+    print::print_access(rt, answer, sums::checksum(sum))
 }
 
-pub(crate) fn read_row32(case: Case, config: &[u32], dest: &[u16], marks: &[bool]) {
+pub(crate) fn read_row32(
+    rt: &HostRuntime,
+    case: Case,
+    config: &[u32],
+    dest: &[u16],
+    marks: &[bool],
+) -> io::Result<()> {
     let mut out = [0u32; ROW_CELLS + 1];
     fill_words(case.seed, u32::MAX, &mut out);
     let c = lent(config.len(), case.lengths, 0);
@@ -101,16 +122,22 @@ pub(crate) fn read_row32(case: Case, config: &[u32], dest: &[u16], marks: &[bool
         case.second,
         &mut out[..n],
     );
-    print_row32(answer, &out);
+    print_row32(rt, answer, &out)
 }
 
 // The line of a call that writes Dest.
-fn print_dest(answer: Access, dest: &[u16], marks: &[bool]) {
+fn print_dest(rt: &HostRuntime, answer: Access, dest: &[u16], marks: &[bool]) -> io::Result<()> {
     let sum = sums::add_marks(sums::add_halves(sums::start(), dest), marks);
-    print::print_access(answer, sums::checksum(sum));
+    print::print_access(rt, answer, sums::checksum(sum))
 }
 
-pub(crate) fn write_row16(case: Case, config: &[u32], dest: &mut [u16], marks: &mut [bool]) {
+pub(crate) fn write_row16(
+    rt: &HostRuntime,
+    case: Case,
+    config: &[u32],
+    dest: &mut [u16],
+    marks: &mut [bool],
+) -> io::Result<()> {
     let mut cells = [0u16; ROW_CELLS + 1];
     fill_halves(case.seed, &mut cells);
     let c = lent(config.len(), case.lengths, 0);
@@ -125,10 +152,16 @@ pub(crate) fn write_row16(case: Case, config: &[u32], dest: &mut [u16], marks: &
         case.second,
         &cells[..n],
     );
-    print_dest(answer, dest, marks);
+    print_dest(rt, answer, dest, marks)
 }
 
-pub(crate) fn write_row32(case: Case, config: &[u32], dest: &mut [u16], marks: &mut [bool]) {
+pub(crate) fn write_row32(
+    rt: &HostRuntime,
+    case: Case,
+    config: &[u32],
+    dest: &mut [u16],
+    marks: &mut [bool],
+) -> io::Result<()> {
     let mut cells = [0u32; ROW_CELLS + 1];
     fill_words(case.seed, u32::MAX, &mut cells);
     let c = lent(config.len(), case.lengths, 0);
@@ -143,7 +176,7 @@ pub(crate) fn write_row32(case: Case, config: &[u32], dest: &mut [u16], marks: &
         case.second,
         &cells[..n],
     );
-    print_dest(answer, dest, marks);
+    print_dest(rt, answer, dest, marks)
 }
 
 // Puts a number at a place, if there is one, and answers what stood there.
@@ -188,24 +221,35 @@ fn ask_source_row(case: Case, src_a: &mut [u32], src_b: &mut [u32]) -> Access {
 }
 
 // The line of a call that writes the source files.
-fn print_sources(answer: Access, src_a: &[u32], src_b: &[u32]) {
+fn print_sources(rt: &HostRuntime, answer: Access, src_a: &[u32], src_b: &[u32]) -> io::Result<()> {
     let sum = sums::add_words(sums::add_words(sums::start(), src_a), src_b);
-    print::print_access(answer, sums::checksum(sum));
+    print::print_access(rt, answer, sums::checksum(sum))
 }
 
 // A number out of range stands in each store during the call, if the case says where.
-pub(crate) fn write_source_row(case: Case, src_a: &mut [u32], src_b: &mut [u32]) {
+pub(crate) fn write_source_row(
+    rt: &HostRuntime,
+    case: Case,
+    src_a: &mut [u32],
+    src_b: &mut [u32],
+) -> io::Result<()> {
     let in_a = case.right / 256 % 4096;
     let in_b = case.right / 1048576;
     let old_a = put_at(src_a, in_a, case.third);
     let old_b = put_at(src_b, in_b, case.third);
     let answer = ask_source_row(case, src_a, src_b);
-    print_sources(answer, src_a, src_b);
+    print_sources(rt, answer, src_a, src_b)?;
     put_at(src_a, in_a, old_a);
     put_at(src_b, in_b, old_b);
+    Ok(())
 }
 
-pub(crate) fn show_row<'a>(case: Case, src_a: &'a [u32], src_b: &'a [u32]) {
+pub(crate) fn show_row<'a>(
+    rt: &HostRuntime,
+    case: Case,
+    src_a: &'a [u32],
+    src_b: &'a [u32],
+) -> io::Result<()> {
     let a = lent(src_a.len(), case.lengths, 0);
     let b = lent(src_b.len(), case.lengths, 2);
     let shown = bench_sources::show_row(
@@ -216,5 +260,5 @@ pub(crate) fn show_row<'a>(case: Case, src_a: &'a [u32], src_b: &'a [u32]) {
         case.third,
     );
     let sum = sums::add_words(sums::start(), shown);
-    print::print_shown(shown.len(), sums::checksum(sum));
+    print::print_shown(rt, shown.len(), sums::checksum(sum))
 }

@@ -1,54 +1,54 @@
 // A line: the answer and a checksum.
 use bench_gprs::GprRead;
-use libc::STDOUT_FILENO;
 use machine::access::Access;
 use machine::refusal::{Refusal, refusal_number};
+use std::io;
 
-fn print_number(n: u32) {
-    io::write_all(STDOUT_FILENO, b" ");
-    io::print_decimal(STDOUT_FILENO, n as u64);
+fn print_number(rt: &HostRuntime, n: u32) -> io::Result<()> {
+    rt.write_all(b" ")?;
+    rt.print(n as u64)
 }
 
-fn print_end() {
-    io::write_all(STDOUT_FILENO, b"\n");
+fn print_end(rt: &HostRuntime) -> io::Result<()> {
+    rt.write_all(b"\n")
 }
 
-fn print_refused(r: Refusal) {
-    io::write_all(STDOUT_FILENO, b"refused");
-    print_number(refusal_number(r));
+fn print_refused(rt: &HostRuntime, r: Refusal) -> io::Result<()> {
+    rt.write_all(b"refused")?;
+    print_number(rt, refusal_number(r))
 }
 
-pub(crate) fn print_filled(sum: u32) {
-    io::write_all(STDOUT_FILENO, b"filled");
-    print_number(sum);
-    print_end();
+pub(crate) fn print_filled(rt: &HostRuntime, sum: u32) -> io::Result<()> {
+    rt.write_all(b"filled")?;
+    print_number(rt, sum)?;
+    print_end(rt)
 }
 
-pub(crate) fn print_read(answer: GprRead) {
+pub(crate) fn print_read(rt: &HostRuntime, answer: GprRead) -> io::Result<()> {
     match answer {
         GprRead::Value(v) => {
-            io::write_all(STDOUT_FILENO, b"value");
-            print_number(v);
+            rt.write_all(b"value")?;
+            print_number(rt, v)?;
         }
-        GprRead::Refused(r) => print_refused(r),
+        GprRead::Refused(r) => print_refused(rt, r)?,
     }
-    print_end();
+    print_end(rt)
 }
 
-pub(crate) fn print_access(answer: Access, sum: u32) {
+pub(crate) fn print_access(rt: &HostRuntime, answer: Access, sum: u32) -> io::Result<()> {
     match answer {
         Access::Granted => {
-            io::write_all(STDOUT_FILENO, b"done");
+            rt.write_all(b"done")?;
         }
-        Access::Refused(r) => print_refused(r),
+        Access::Refused(r) => print_refused(rt, r)?,
     }
-    print_number(sum);
-    print_end();
+    print_number(rt, sum)?;
+    print_end(rt)
 }
 
-pub(crate) fn print_shown(cells: usize, sum: u32) {
-    io::write_all(STDOUT_FILENO, b"shown ");
-    io::print_decimal(STDOUT_FILENO, cells as u64);
-    print_number(sum);
-    print_end();
+pub(crate) fn print_shown(rt: &HostRuntime, cells: usize, sum: u32) -> io::Result<()> {
+    rt.write_all(b"shown ")?;
+    rt.print(cells as u64)?;
+    print_number(rt, sum)?;
+    print_end(rt)
 }

@@ -5,37 +5,39 @@
 mod names;
 
 use format::number::read;
-use libc::{STDIN_FILENO, STDOUT_FILENO};
 use machine::refusal::refusal_number;
+use program_io::read_full;
+use std::io;
 use word_decode::Decoded;
 
-fn print_line(decoded: Decoded) {
+fn print_line(rt: &HostRuntime, decoded: Decoded) -> io::Result<()> {
     match decoded {
-        Decoded::Decodes(instruction) => names::print(instruction),
+        Decoded::Decodes(instruction) => names::print(rt, instruction)?,
         Decoded::Refused(r) => {
-            io::write_all(STDOUT_FILENO, b"refused ");
-            io::print_decimal(STDOUT_FILENO, refusal_number(r) as u64);
+            rt.write_all(b"refused ")?;
+            rt.print(refusal_number(r) as u64)?;
         }
     }
-    io::write_all(STDOUT_FILENO, b"\n");
+    rt.write_all(b"\n")
 }
 
 // Reads one word and prints its line, and answers whether there was one.
-fn one_word() -> bool {
+fn one_word(rt: &HostRuntime) -> io::Result<bool> {
     let mut bytes = [0u8; 4];
-    let got = io::read_full(STDIN_FILENO, &mut bytes);
+    let got = read_full(&mut rt.stdin(), &mut bytes)?;
     if got < 4 {
-        return false;
+        return Ok(false);
     }
-    print_line(word_decode::decode(read(&bytes, 0, 4)));
-    true
+    print_line(rt, word_decode::decode(read(&bytes, 0, 4)))?;
+    Ok(true)
 }
 
 // No input uses the turns up: they are what a proved loop counts down.
-fn main() {
+fn main(rt: HostRuntime) -> io::Result<()> {
     for _ in 0..u32::MAX {
-        if !one_word() {
-            return;
+        if !one_word(&rt)? {
+            return Ok(());
         }
     }
+    Ok(())
 }

@@ -1,125 +1,124 @@
 // What is printed of an instruction: its published name, then its fields.
-use libc::STDOUT_FILENO;
+use std::io;
 use word_rules::instruction::{
     BankWord, CellWord, ConfigWord, Instruction, Operand, ScalarWord, SyncWord,
 };
 
-fn name(text: &[u8]) {
-    io::write_all(STDOUT_FILENO, text);
+fn name(rt: &HostRuntime, text: &[u8]) -> io::Result<()> {
+    rt.write_all(text)
 }
 
-fn field(n: u32) {
-    io::write_all(STDOUT_FILENO, b" ");
-    io::print_decimal(STDOUT_FILENO, n as u64);
+fn field(rt: &HostRuntime, n: u32) -> io::Result<()> {
+    rt.write_all(b" ")?;
+    rt.print(n as u64)
 }
 
-fn flag(on: bool) {
+fn flag(rt: &HostRuntime, on: bool) -> io::Result<()> {
     if on {
-        field(1);
-        return;
+        return field(rt, 1);
     }
-    field(0);
+    field(rt, 0)
 }
 
-fn operand(b: Operand) {
+fn operand(rt: &HostRuntime, b: Operand) -> io::Result<()> {
     match b {
         Operand::Constant(n) => {
-            name(b" constant");
-            field(n as u32);
+            name(rt, b" constant")?;
+            field(rt, n as u32)
         }
         Operand::Register(g) => {
-            name(b" register");
-            field(g.0 as u32);
+            name(rt, b" register")?;
+            field(rt, g.0 as u32)
         }
     }
 }
 
-fn print_scalar(word: ScalarWord) {
+fn print_scalar(rt: &HostRuntime, word: ScalarWord) -> io::Result<()> {
     match word {
         ScalarWord::SetDmaReg { half, value } => {
-            name(b"SETDMAREG");
-            field(value as u32);
-            field(half.0 as u32);
+            name(rt, b"SETDMAREG")?;
+            field(rt, value as u32)?;
+            field(rt, half.0 as u32)
         }
         ScalarWord::AddDmaReg { result, a, b } => {
-            name(b"ADDDMAREG");
-            field(result.0 as u32);
-            operand(b);
-            field(a.0 as u32);
+            name(rt, b"ADDDMAREG")?;
+            field(rt, result.0 as u32)?;
+            operand(rt, b)?;
+            field(rt, a.0 as u32)
         }
         ScalarWord::MulDmaReg { result, a, b } => {
-            name(b"MULDMAREG");
-            field(result.0 as u32);
-            operand(b);
-            field(a.0 as u32);
+            name(rt, b"MULDMAREG")?;
+            field(rt, result.0 as u32)?;
+            operand(rt, b)?;
+            field(rt, a.0 as u32)
         }
-        ScalarWord::DmaNop => name(b"DMANOP"),
+        ScalarWord::DmaNop => name(rt, b"DMANOP"),
     }
 }
 
-fn print_sync(word: SyncWord) {
+fn print_sync(rt: &HostRuntime, word: SyncWord) -> io::Result<()> {
     match word {
         SyncWord::AtGetM { mutex } => {
-            name(b"ATGETM");
-            field(mutex as u32);
+            name(rt, b"ATGETM")?;
+            field(rt, mutex as u32)
         }
         SyncWord::AtRelM { mutex } => {
-            name(b"ATRELM");
-            field(mutex as u32);
+            name(rt, b"ATRELM")?;
+            field(rt, mutex as u32)
         }
         SyncWord::StallWait { block, conditions } => {
-            name(b"STALLWAIT");
-            field(block as u32);
-            field(conditions);
+            name(rt, b"STALLWAIT")?;
+            field(rt, block as u32)?;
+            field(rt, conditions)
         }
         SyncWord::SemInit {
             maximum,
             value,
             mask,
         } => {
-            name(b"SEMINIT");
-            field(maximum as u32);
-            field(value as u32);
-            field(mask as u32);
+            name(rt, b"SEMINIT")?;
+            field(rt, maximum as u32)?;
+            field(rt, value as u32)?;
+            field(rt, mask as u32)
         }
         SyncWord::SemPost { mask } => {
-            name(b"SEMPOST");
-            field(mask as u32);
+            name(rt, b"SEMPOST")?;
+            field(rt, mask as u32)
         }
         SyncWord::SemGet { mask } => {
-            name(b"SEMGET");
-            field(mask as u32);
+            name(rt, b"SEMGET")?;
+            field(rt, mask as u32)
         }
         SyncWord::SemWait {
             block,
             mask,
             condition,
         } => {
-            name(b"SEMWAIT");
-            field(block as u32);
-            field(mask as u32);
-            field(condition as u32);
+            name(rt, b"SEMWAIT")?;
+            field(rt, block as u32)?;
+            field(rt, mask as u32)?;
+            field(rt, condition as u32)
         }
     }
 }
 
-fn print_config(word: ConfigWord) {
+fn print_config(rt: &HostRuntime, word: ConfigWord) -> io::Result<()> {
     match word {
         ConfigWord::WrCfg { gpr, wide, index } => {
-            name(b"WRCFG");
-            field(gpr.0 as u32);
-            flag(wide);
-            field(index as u32);
+            name(rt, b"WRCFG")?;
+            field(rt, gpr.0 as u32)?;
+            flag(rt, wide)?;
+            field(rt, index as u32)
         }
         ConfigWord::RdCfg { gpr, index } => {
-            name(b"RDCFG");
-            field(gpr.0 as u32);
-            field(index as u32);
+            name(rt, b"RDCFG")?;
+            field(rt, gpr.0 as u32)?;
+            field(rt, index as u32)
         }
         ConfigWord::SetC16 { entry, value } => {
-            name(b"SETC16");
-            field(entry as u32);
-            field(value as u32);
+            name(rt, b"SETC16")?;
+            field(rt, entry as u32)?;
+            field(rt, value as u32)
         }
         ConfigWord::RmwCib {
             byte,
@@ -127,57 +126,57 @@ fn print_config(word: ConfigWord) {
             value,
             index,
         } => {
-            name(b"RMWCIB");
-            io::print_decimal(STDOUT_FILENO, byte as u64);
-            field(mask as u32);
-            field(value as u32);
-            field(index as u32);
+            name(rt, b"RMWCIB")?;
+            rt.print(byte as u64)?;
+            field(rt, mask as u32)?;
+            field(rt, value as u32)?;
+            field(rt, index as u32)
         }
     }
 }
 
-fn print_cell(word: CellWord) {
+fn print_cell(rt: &HostRuntime, word: CellWord) -> io::Result<()> {
     match word {
-        CellWord::TrnspSrcB => name(b"TRNSPSRCB"),
+        CellWord::TrnspSrcB => name(rt, b"TRNSPSRCB"),
         CellWord::MovB2A { row_a, four, row_b } => {
-            name(b"MOVB2A");
-            field(row_a as u32);
-            flag(four);
-            field(row_b as u32);
+            name(rt, b"MOVB2A")?;
+            field(rt, row_a as u32)?;
+            flag(rt, four)?;
+            field(rt, row_b as u32)
         }
         CellWord::ZeroAcc { mode, wide, place } => {
-            name(b"ZEROACC");
-            field(mode as u32);
-            flag(wide);
-            field(place as u32);
+            name(rt, b"ZEROACC")?;
+            field(rt, mode as u32)?;
+            flag(rt, wide)?;
+            field(rt, place as u32)
         }
     }
 }
 
-fn print_bank(word: BankWord) {
+fn print_bank(rt: &HostRuntime, word: BankWord) -> io::Result<()> {
     match word {
         BankWord::ClearDValid { a, b, keep, reset } => {
-            name(b"CLEARDVALID");
-            flag(b);
-            flag(a);
-            flag(keep);
-            flag(reset);
+            name(rt, b"CLEARDVALID")?;
+            flag(rt, b)?;
+            flag(rt, a)?;
+            flag(rt, keep)?;
+            flag(rt, reset)
         }
         BankWord::SetDValid { a, b } => {
-            name(b"SETDVALID");
-            flag(b);
-            flag(a);
+            name(rt, b"SETDVALID")?;
+            flag(rt, b)?;
+            flag(rt, a)
         }
     }
 }
 
-pub(crate) fn print(instruction: Instruction) {
+pub(crate) fn print(rt: &HostRuntime, instruction: Instruction) -> io::Result<()> {
     match instruction {
-        Instruction::Nop => name(b"NOP"),
-        Instruction::Cell(word) => print_cell(word),
-        Instruction::Bank(word) => print_bank(word),
-        Instruction::Scalar(word) => print_scalar(word),
-        Instruction::Sync(word) => print_sync(word),
-        Instruction::Config(word) => print_config(word),
+        Instruction::Nop => name(rt, b"NOP"),
+        Instruction::Cell(word) => print_cell(rt, word),
+        Instruction::Bank(word) => print_bank(rt, word),
+        Instruction::Scalar(word) => print_scalar(rt, word),
+        Instruction::Sync(word) => print_sync(rt, word),
+        Instruction::Config(word) => print_config(rt, word),
     }
 }

@@ -2,59 +2,66 @@
 // oracle/cases/cases_emulate.py makes them and the output that is expected.
 #![tactic(auto)]
 
-ghost use Rattle.std.specs.Prelude.{◌≤◌};
+ghost use Rattle.std.specs.Prelude.{◌≤◌, IfOk};
 
 use format::number::read_half;
-use libc::{STDIN_FILENO, STDOUT_FILENO};
 use program_emulate::EMULATE_READS;
+use program_io::read_full;
 use program_report::LINES_BYTES;
+use std::io;
 
 // The length of the next input, or none where there is no input left.
-fn next_length() -> usize
-    ensures { result ≤ 65536 }
+fn next_length(rt: &HostRuntime) -> io::Result<usize>
+    ensures { IfOk result (λ n. n ≤ 65536) }
 {
     let mut head = [0u8; 4];
-    let got = io::read_full(STDIN_FILENO, &mut head);
+    let got = read_full(&mut rt.stdin(), &mut head)?;
     if got < 4 {
-        return 65536;
+        return Ok(65536);
     }
-    read_half(&head, 0) as usize
+    Ok(read_half(&head, 0) as usize)
 }
 
 // Writes the first m bytes.
-fn write_start(out: &[u8], m: usize) {
+fn write_start(rt: &HostRuntime, out: &[u8], m: usize) -> io::Result<()> {
     if m <= out.len() {
-        io::write_all(STDOUT_FILENO, &out[..m]);
+        rt.write_all(&out[..m])?;
     }
+    Ok(())
 }
 
 // Answers the input that the room takes whole.
-fn answer_in(room: &mut [u8], out: &mut [u8; LINES_BYTES]) {
-    let got = io::read_full(STDIN_FILENO, room);
+fn answer_in(rt: &HostRuntime, room: &mut [u8], out: &mut [u8; LINES_BYTES]) -> io::Result<()> {
+    let got = read_full(&mut rt.stdin(), room)?;
     let m = program_emulate::emulate(&room[..got], out);
-    write_start(out, m);
+    write_start(rt, out, m)
 }
 
 // Answers the next input, in the room lent for it; whether there was one.
-fn answer(room: &mut [u8], out: &mut [u8; LINES_BYTES]) -> bool {
-    let n = next_length();
+fn answer(rt: &HostRuntime, room: &mut [u8], out: &mut [u8; LINES_BYTES]) -> io::Result<bool> {
+    let n = next_length(rt)?;
     if room.len() < n {
-        return false;
+        return Ok(false);
     }
-    answer_in(&mut room[..n], out);
-    true
+    answer_in(rt, &mut room[..n], out)?;
+    Ok(true)
 }
 
 // No input uses the turns up: they are what a proved loop counts down.
-fn answer_all(room: &mut [u8; EMULATE_READS], out: &mut [u8; LINES_BYTES]) {
+fn answer_all(
+    rt: &HostRuntime,
+    room: &mut [u8; EMULATE_READS],
+    out: &mut [u8; LINES_BYTES],
+) -> io::Result<()> {
     let mut turns = u32::MAX;
-    while turns > 0 && answer(room, out) {
+    while turns > 0 && answer(rt, room, out)? {
         turns -= 1;
     }
+    Ok(())
 }
 
-fn main() {
+fn main(rt: HostRuntime) -> io::Result<()> {
     let mut room = [0u8; EMULATE_READS];
     let mut out = [0u8; LINES_BYTES];
-    answer_all(&mut room, &mut out);
+    answer_all(&rt, &mut room, &mut out)
 }

@@ -1,13 +1,13 @@
 // What is printed of an answer and of what is carried, and its checksum.
 use expander_rules::{Answer, Carried, Expanded, Load};
-use libc::STDOUT_FILENO;
 use machine::refusal::refusal_number;
+use std::io;
 use test_machines::sums;
 use test_machines::sums::Sums;
 
-pub(crate) fn print_number(n: u64) {
-    io::write_all(STDOUT_FILENO, b" ");
-    io::print_decimal(STDOUT_FILENO, n);
+pub(crate) fn print_number(rt: &HostRuntime, n: u64) -> io::Result<()> {
+    rt.write_all(b" ")?;
+    rt.print(n)
 }
 
 fn bit(set: bool) -> u32 {
@@ -41,17 +41,17 @@ fn numbers_of(load: Load) -> Numbers {
 }
 
 // The high mask, the slots' checksum, and the load.
-pub(crate) fn print_carried(carried: Carried) {
+pub(crate) fn print_carried(rt: &HostRuntime, carried: Carried) -> io::Result<()> {
     let slots = carried.slots;
     let load = carried.load;
     let sum = sums::add_words(sums::start(), &slots);
     let numbers = numbers_of(load);
-    print_number(carried.high_mask as u64);
-    print_number(sums::checksum(sum) as u64);
-    print_number(numbers.kind as u64);
-    print_number(numbers.next as u64);
-    print_number(numbers.left as u64);
-    print_number(numbers.shown as u64);
+    print_number(rt, carried.high_mask as u64)?;
+    print_number(rt, sums::checksum(sum) as u64)?;
+    print_number(rt, numbers.kind as u64)?;
+    print_number(rt, numbers.next as u64)?;
+    print_number(rt, numbers.left as u64)?;
+    print_number(rt, numbers.shown as u64)
 }
 
 // What is carried, added to a checksum.
@@ -77,42 +77,42 @@ pub(crate) fn add_call(sum: Sums, answer: Answer, carried: Carried) -> Sums {
 }
 
 // A line's answer; `done` is the word for an accepted call.
-fn print_answer(answer: Answer, done: &[u8]) {
+fn print_answer(rt: &HostRuntime, answer: Answer, done: &[u8]) -> io::Result<()> {
     match answer {
         Answer::Done(n) => {
-            io::write_all(STDOUT_FILENO, done);
-            print_number(n as u64);
+            rt.write_all(done)?;
+            print_number(rt, n as u64)
         }
         Answer::Refused(r) => {
-            io::write_all(STDOUT_FILENO, b"refused");
-            print_number(refusal_number(r) as u64);
+            rt.write_all(b"refused")?;
+            print_number(rt, refusal_number(r) as u64)
         }
     }
 }
 
-pub(crate) fn print_call(r: Expanded) {
+pub(crate) fn print_call(rt: &HostRuntime, r: Expanded) -> io::Result<()> {
     let answer = r.answer;
-    print_answer(answer, b"done");
+    print_answer(rt, answer, b"done")?;
     let carried = r.carried;
-    print_carried(carried);
+    print_carried(rt, carried)
 }
 
 // The output's checksum, what a close gives, and the line's end.
-pub(crate) fn print_end(carried: Carried, out: &[u32]) {
+pub(crate) fn print_end(rt: &HostRuntime, carried: Carried, out: &[u32]) -> io::Result<()> {
     let sum = sums::add_words(sums::start(), out);
-    print_number(sums::checksum(sum) as u64);
+    print_number(rt, sums::checksum(sum) as u64)?;
     let r = expander::close(carried);
     let answer = r.answer;
     match answer {
         Answer::Done(n) => {
-            io::write_all(STDOUT_FILENO, b" closed");
+            rt.write_all(b" closed")?;
         }
         Answer::Refused(why) => {
-            io::write_all(STDOUT_FILENO, b" refused");
-            print_number(refusal_number(why) as u64);
+            rt.write_all(b" refused")?;
+            print_number(rt, refusal_number(why) as u64)?;
         }
     }
     let after = r.carried;
-    print_carried(after);
-    io::write_all(STDOUT_FILENO, b"\n");
+    print_carried(rt, after)?;
+    rt.write_all(b"\n")
 }

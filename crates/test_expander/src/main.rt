@@ -12,8 +12,9 @@ use case::Case;
 use draws::Replays;
 use expander_rules::Carried;
 use expander_rules::sizes::SLOTS;
-use libc::{STDIN_FILENO, STDOUT_FILENO};
 use pieces::Fed;
+use program_io::read_full;
+use std::io;
 use test_machines::sums;
 
 // The nine words: m0 and m1 are the case's, and some of the others become REPLAYs.
@@ -40,37 +41,56 @@ fn make_slots(replays: Replays, state: u32) -> Slots {
     Slots { slots, state: y }
 }
 
-fn run_call(nine: &[u32], carried: Carried, stream: &[u32], out: &mut [u32]) {
+fn run_call(
+    rt: &HostRuntime,
+    nine: &[u32],
+    carried: Carried,
+    stream: &[u32],
+    out: &mut [u32],
+) -> io::Result<()> {
     let r = expander::expand(nine, carried, stream, out);
-    lines::print_call(r);
+    lines::print_call(rt, r)?;
     let after = r.carried;
-    lines::print_end(after, out);
+    lines::print_end(rt, after, out)
 }
 
-fn print_pieces(fed: Fed, out: &[u32]) {
-    io::write_all(STDOUT_FILENO, b"pieces");
-    lines::print_number(fed.taken as u64);
-    lines::print_number(fed.at as u64);
+fn print_pieces(rt: &HostRuntime, fed: Fed, out: &[u32]) -> io::Result<()> {
+    rt.write_all(b"pieces")?;
+    lines::print_number(rt, fed.taken as u64)?;
+    lines::print_number(rt, fed.at as u64)?;
     let sum = fed.sum;
-    lines::print_number(sums::checksum(sum) as u64);
+    lines::print_number(rt, sums::checksum(sum) as u64)?;
     let after = fed.carried;
-    lines::print_carried(after);
-    lines::print_end(after, out);
+    lines::print_carried(rt, after)?;
+    lines::print_end(rt, after, out)
 }
 
 // Below 65,536 `cuts` asks for a cut at each place; else it is the seed of the pieces' lengths, and its low half their span.
-fn run_pieces(nine: &[u32], carried: Carried, stream: &[u32], cuts: u32, out: &mut [u32]) {
+fn run_pieces(
+    rt: &HostRuntime,
+    nine: &[u32],
+    carried: Carried,
+    stream: &[u32],
+    cuts: u32,
+    out: &mut [u32],
+) -> io::Result<()> {
     if cuts < 65536 {
         let fed = pieces::feed_places(nine, carried, stream, out);
-        print_pieces(fed, out);
+        print_pieces(rt, fed, out)
     } else {
         let fed = pieces::feed_drawn(nine, carried, stream, cuts, out);
-        print_pieces(fed, out);
+        print_pieces(rt, fed, out)
     }
 }
 
 // The nine words, the stream and the output are what the case makes of the three slices.
-fn run_case(case: Case, nine: &mut [u32], stream: &mut [u32], out: &mut [u32]) {
+fn run_case(
+    rt: &HostRuntime,
+    case: Case,
+    nine: &mut [u32],
+    stream: &mut [u32],
+    out: &mut [u32],
+) -> io::Result<()> {
     let a = make_nine(nine, case.m0, case.m1, case.in_nine, case.seed);
     let made = make_slots(case.in_slots, a);
     let slots = made.slots;
@@ -83,59 +103,71 @@ fn run_case(case: Case, nine: &mut [u32], stream: &mut [u32], out: &mut [u32]) {
         load,
     };
     if case.pieces == 0 {
-        run_call(nine, carried, stream, out);
+        run_call(rt, nine, carried, stream, out)
     } else {
-        run_pieces(nine, carried, stream, case.pieces, out);
+        run_pieces(rt, nine, carried, stream, case.pieces, out)
     }
 }
 
 // Reads one case and runs it, and answers whether there was one that fits.
-fn one_case(nine: &mut [u32], stream: &mut [u32], out: &mut [u32]) -> bool {
+fn one_case(
+    rt: &HostRuntime,
+    nine: &mut [u32],
+    stream: &mut [u32],
+    out: &mut [u32],
+) -> io::Result<bool> {
     let mut record = [0u8; case::BYTES];
-    let got = io::read_full(STDIN_FILENO, &mut record);
+    let got = read_full(&mut rt.stdin(), &mut record)?;
     if got < case::BYTES {
-        return false;
+        return Ok(false);
     }
     let case = case::read_case(&record);
     let nine_words = case.nine_words;
     let stream_words = case.stream_words;
     let room = case.room;
     if nine.len() < nine_words {
-        return false;
+        return Ok(false);
     }
     if stream.len() < stream_words {
-        return false;
+        return Ok(false);
     }
     if out.len() < room {
-        return false;
+        return Ok(false);
     }
     run_case(
+        rt,
         case,
         &mut nine[..nine_words],
         &mut stream[..stream_words],
         &mut out[..room],
-    );
-    true
+    )?;
+    Ok(true)
 }
 
 // No run uses the turns up: they are what a proved loop counts down.
-fn all_cases(nine: &mut [u32], stream: &mut [u32], out: &mut [u32]) {
+fn all_cases(
+    rt: &HostRuntime,
+    nine: &mut [u32],
+    stream: &mut [u32],
+    out: &mut [u32],
+) -> io::Result<()> {
     let mut turns = u32::MAX;
-    while turns > 0 && one_case(nine, stream, out) {
+    while turns > 0 && one_case(rt, nine, stream, out)? {
         turns -= 1;
     }
+    Ok(())
 }
 
-fn print_fresh(carried: Carried) {
-    io::write_all(STDOUT_FILENO, b"fresh");
-    lines::print_carried(carried);
-    io::write_all(STDOUT_FILENO, b"\n");
+fn print_fresh(rt: &HostRuntime, carried: Carried) -> io::Result<()> {
+    rt.write_all(b"fresh")?;
+    lines::print_carried(rt, carried)?;
+    rt.write_all(b"\n")
 }
 
-fn main() {
-    print_fresh(expander::fresh_carried());
+fn main(rt: HostRuntime) -> io::Result<()> {
+    print_fresh(&rt, expander::fresh_carried())?;
     let mut nine = [0u32; 16];
     let mut stream = [0u32; 65600];
     let mut out = [0u32; 65600];
-    all_cases(&mut nine, &mut stream, &mut out);
+    all_cases(&rt, &mut nine, &mut stream, &mut out)
 }

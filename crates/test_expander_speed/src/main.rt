@@ -4,6 +4,7 @@
 
 mod expansions;
 
+use std::io;
 use test_jobs::{BYTES_MOST, Job, Line, WORDS_MOST, next_job, not_done, words_of, write_line};
 
 // Does the job; not where its kind is another, its words are not there, or it asks for more room than there is.
@@ -19,21 +20,30 @@ fn do_job(j: Job, words: &[u32]) -> Line {
 }
 
 // Reads a job and does it; false where there is none.
-fn one_job(room: &mut [u8; BYTES_MOST], words: &mut [u32; WORDS_MOST]) -> bool {
-    let j = next_job(room, words);
-    write_line(j.kind, do_job(j, words))
+fn one_job(
+    rt: &HostRuntime,
+    room: &mut [u8; BYTES_MOST],
+    words: &mut [u32; WORDS_MOST],
+) -> io::Result<bool> {
+    let j = next_job(rt, room, words)?;
+    write_line(rt, j.kind, do_job(j, words))
 }
 
 // No input uses the turns up: they are what a proved loop counts down.
-fn all_jobs(room: &mut [u8; BYTES_MOST], words: &mut [u32; WORDS_MOST]) {
+fn all_jobs(
+    rt: &HostRuntime,
+    room: &mut [u8; BYTES_MOST],
+    words: &mut [u32; WORDS_MOST],
+) -> io::Result<()> {
     let mut turns = u32::MAX;
-    while turns > 0 && one_job(room, words) {
+    while turns > 0 && one_job(rt, room, words)? {
         turns -= 1;
     }
+    Ok(())
 }
 
-fn main() {
+fn main(rt: HostRuntime) -> io::Result<()> {
     let mut room = [0u8; BYTES_MOST];
     let mut words = [0u32; WORDS_MOST];
-    all_jobs(&mut room, &mut words);
+    all_jobs(&rt, &mut room, &mut words)
 }

@@ -1,5 +1,5 @@
 // A group: a machine saved, and loads from what was written.
-ghost use Rattle.std.specs.Prelude.{◌+◌, ◌*◌, ◌≤◌, ◌<◌, length};
+ghost use Rattle.std.specs.Prelude.{◌+◌, ◌*◌, ◌≤◌, ◌<◌, length, IfOk};
 ghost use Rattle.test_machines.specs.Made.{made_bytes};
 
 use crate::lent::save;
@@ -7,6 +7,7 @@ use crate::lines::write_saved;
 use crate::loads::run_loads;
 use format::number::read;
 use image_layout::IMAGE_BYTES;
+use std::io;
 use test_machines::lengths::at_most;
 use test_machines::made::{MADE_BYTES, Made, read_made};
 use test_machines::parts::make;
@@ -27,25 +28,25 @@ fn sum_of(out: &[u8]) -> u32 {
 }
 
 // Saves a fresh machine.
-pub(crate) fn save_fresh() {
+pub(crate) fn save_fresh(rt: &HostRuntime) -> io::Result<()> {
     let mut out = [UNWRITTEN; OUT_MOST];
     let done = save_whole(machine::fresh::fresh(), &mut out);
-    write_saved(done, sum_of(&out));
+    write_saved(rt, done, sum_of(&out))
 }
 
 // Makes a machine, saves it into the first `room` bytes of the output, and writes the line.
-fn save_made(m: Made, room: u32, out: &mut [u8]) {
+fn save_made(rt: &HostRuntime, m: Made, room: u32, out: &mut [u8]) -> io::Result<()> {
     let n = at_most(room as usize, out.len());
     let done = save(make(m), m, &mut out[..n]);
-    write_saved(done, sum_of(out));
+    write_saved(rt, done, sum_of(out))
 }
 
 // Saves one machine and loads over the other.
-fn run_made(saved: Made, room: u32, over: Made, loads: &[u8]) {
+fn run_made(rt: &HostRuntime, saved: Made, room: u32, over: Made, loads: &[u8]) -> io::Result<()> {
     let mut out = [UNWRITTEN; OUT_MOST];
     let mut again = [0; IMAGE_BYTES];
-    save_made(saved, room, &mut out);
-    run_loads(over, &mut out, &mut again, loads);
+    save_made(rt, saved, room, &mut out)?;
+    run_loads(rt, over, &mut out, &mut again, loads)
 }
 
 // Where the loads end of a group that says it has `count` of them: at the last whole load that is there.
@@ -61,9 +62,9 @@ fn loads_end(from: usize, count: u32, len: usize) -> usize
 }
 
 // The group that starts at `at`; answers where the next one starts.
-pub(crate) fn run_group(input: &[u8], at: usize) -> usize
+pub(crate) fn run_group(rt: &HostRuntime, input: &[u8], at: usize) -> io::Result<usize>
     requires { at + (2 * made_bytes + 8) ≤ length input.now }
-    ensures { (at < result) × (result ≤ length input.now) }
+    ensures { IfOk result (λ end. (at < end) × (end ≤ length input.now)) }
 {
     let saved = read_made(input, at);
     let room = read(input, at + MADE_BYTES, 4);
@@ -71,6 +72,6 @@ pub(crate) fn run_group(input: &[u8], at: usize) -> usize
     let count = read(input, at + 2 * MADE_BYTES + 4, 4);
     let from = at + HEADER_BYTES;
     let end = loads_end(from, count, input.len());
-    run_made(saved, room, over, &input[from..end]);
-    end
+    run_made(rt, saved, room, over, &input[from..end])?;
+    Ok(end)
 }

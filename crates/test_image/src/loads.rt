@@ -5,6 +5,7 @@ use crate::lent::{PartsLoaded, load, save};
 use crate::lines::{write_refused, write_taken};
 use format::number::read;
 use image::LoadAnswer;
+use std::io;
 use test_machines::lengths::at_most;
 use test_machines::made::Made;
 use test_machines::parts::{Parts, digest_parts, make};
@@ -39,21 +40,28 @@ fn load_damaged(p: Parts, m: Made, out: &mut [u8], d: Damage) -> PartsLoaded {
 }
 
 // The line of a machine that was loaded, which is saved again.
-fn write_loaded(p: Parts, m: Made, again: &mut [u8]) {
+fn write_loaded(rt: &HostRuntime, p: Parts, m: Made, again: &mut [u8]) -> io::Result<()> {
     let sum = digest_parts(p);
     save(p, m, again);
     let whole = sums::add_bytes(sums::start(), again);
-    write_taken(sum, sums::checksum(whole));
+    write_taken(rt, sum, sums::checksum(whole))
 }
 
 // One load over a machine, and its line.
-fn run_load(p: Parts, m: Made, out: &mut [u8], again: &mut [u8], d: Damage) {
+fn run_load(
+    rt: &HostRuntime,
+    p: Parts,
+    m: Made,
+    out: &mut [u8],
+    again: &mut [u8],
+    d: Damage,
+) -> io::Result<()> {
     let done = load_damaged(p, m, out, d);
     let after = done.parts;
     let answer = done.answer;
     match answer {
-        LoadAnswer::Refused(r) => write_refused(r, digest_parts(after)),
-        LoadAnswer::Taken => write_loaded(after, m, again),
+        LoadAnswer::Refused(r) => write_refused(rt, r, digest_parts(after)),
+        LoadAnswer::Taken => write_loaded(rt, after, m, again),
     }
 }
 
@@ -68,12 +76,19 @@ fn damage_at(s: &[u8], at: usize) -> Damage
 }
 
 // All loads of a group, each over the machine that `m` is of.
-pub(crate) fn run_loads(m: Made, out: &mut [u8], again: &mut [u8], loads: &[u8]) {
+pub(crate) fn run_loads(
+    rt: &HostRuntime,
+    m: Made,
+    out: &mut [u8],
+    again: &mut [u8],
+    loads: &[u8],
+) -> io::Result<()> {
     let p = make(m);
     let mut at = 0;
     while 12 <= loads.len() - at {
         let d = damage_at(loads, at);
-        run_load(p, m, out, again, d);
+        run_load(rt, p, m, out, again, d)?;
         at += 12;
     }
+    Ok(())
 }

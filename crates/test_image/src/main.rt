@@ -11,31 +11,33 @@ mod lent;
 mod lines;
 mod loads;
 
-use libc::STDIN_FILENO;
+use program_io::read_full;
+use std::io;
 
 const INPUT_MOST: usize = 262144;
 
 // The groups, one after the other, up to the input's end or a header that is cut.
-fn run_groups(input: &[u8]) {
+fn run_groups(rt: &HostRuntime, input: &[u8]) -> io::Result<()> {
     let mut at = 0;
     while group::HEADER_BYTES <= input.len() - at {
-        at = group::run_group(input, at);
+        at = group::run_group(rt, input, at)?;
     }
+    Ok(())
 }
 
 // The groups of standard input, which `input` takes.
-fn run_input(input: &mut [u8]) {
-    let n = io::read_full(STDIN_FILENO, input);
-    group::save_fresh();
-    run_groups(&input[..n]);
+fn run_input(rt: &HostRuntime, input: &mut [u8]) -> io::Result<()> {
+    let n = read_full(&mut rt.stdin(), input)?;
+    group::save_fresh(rt)?;
+    run_groups(rt, &input[..n])
 }
 
 // The same, in an array that is lent whole.
-fn run_in(input: &mut [u8; INPUT_MOST]) {
-    run_input(input);
+fn run_in(rt: &HostRuntime, input: &mut [u8; INPUT_MOST]) -> io::Result<()> {
+    run_input(rt, input)
 }
 
-fn main() {
+fn main(rt: HostRuntime) -> io::Result<()> {
     let mut input = [0; INPUT_MOST];
-    run_in(&mut input);
+    run_in(&rt, &mut input)
 }

@@ -5,7 +5,8 @@
 ghost use Rattle.std.specs.Prelude.{◌≡◌, ◌+◌};
 
 use format::number::read;
-use libc::{STDIN_FILENO, STDOUT_FILENO};
+use program_io::read_full;
+use std::io;
 
 #[derive(Clone, Copy)]
 pub struct Job {
@@ -80,70 +81,74 @@ fn job_in(bytes: &[u8; JOB_BYTES]) -> Job {
 }
 
 // Fills the words from standard input, their bytes in the room lent; false where there is not room or input enough.
-fn read_input(room: &mut [u8], words: &mut [u32]) -> bool {
+fn read_input(rt: &HostRuntime, room: &mut [u8], words: &mut [u32]) -> io::Result<bool> {
     let n = words.len();
     if room.len() / 4 < n {
-        return false;
+        return Ok(false);
     }
-    let got = io::read_full(STDIN_FILENO, &mut room[..4 * n]);
+    let got = read_full(&mut rt.stdin(), &mut room[..4 * n])?;
     if got < 4 * n {
-        return false;
+        return Ok(false);
     }
     format::run::read_words(room, 0, 4, words);
-    true
+    Ok(true)
 }
 
 // The job with its words in those lent; none where they are too many or not there.
-fn with_words(j: Job, room: &mut [u8], words: &mut [u32]) -> Job {
+fn with_words(rt: &HostRuntime, j: Job, room: &mut [u8], words: &mut [u32]) -> io::Result<Job> {
     let n = words_of(j);
     if words.len() < n {
-        return no_job();
+        return Ok(no_job());
     }
-    if !read_input(room, &mut words[..n]) {
-        return no_job();
+    if !read_input(rt, room, &mut words[..n])? {
+        return Ok(no_job());
     }
-    j
+    Ok(j)
 }
 
 // The next job of standard input, and its words; none where there is none.
-pub fn next_job(room: &mut [u8; BYTES_MOST], words: &mut [u32; WORDS_MOST]) -> Job {
+pub fn next_job(
+    rt: &HostRuntime,
+    room: &mut [u8; BYTES_MOST],
+    words: &mut [u32; WORDS_MOST],
+) -> io::Result<Job> {
     let mut record = [0u8; JOB_BYTES];
-    let got = io::read_full(STDIN_FILENO, &mut record);
+    let got = read_full(&mut rt.stdin(), &mut record)?;
     if got < JOB_BYTES {
-        return no_job();
+        return Ok(no_job());
     }
-    with_words(job_in(&record), room, words)
+    with_words(rt, job_in(&record), room, words)
 }
 
-fn write_kind(kind: u32) {
+fn write_kind(rt: &HostRuntime, kind: u32) -> io::Result<()> {
     match kind {
-        1 => io::write_all(STDOUT_FILENO, b"run"),
-        2 => io::write_all(STDOUT_FILENO, b"save"),
-        3 => io::write_all(STDOUT_FILENO, b"load"),
-        _ => io::write_all(STDOUT_FILENO, b"expand"),
-    };
+        1 => rt.write_all(b"run"),
+        2 => rt.write_all(b"save"),
+        3 => rt.write_all(b"load"),
+        _ => rt.write_all(b"expand"),
+    }
 }
 
 // A number, after a space.
-fn write_number(n: u32) {
-    io::write_all(STDOUT_FILENO, b" ");
-    io::print_decimal(STDOUT_FILENO, n as u64);
+fn write_number(rt: &HostRuntime, n: u32) -> io::Result<()> {
+    rt.write_all(b" ")?;
+    rt.print(n as u64)
 }
 
 // Writes the line; false, and nothing is written, where the job was not done.
-pub fn write_line(kind: u32, line: Line) -> bool {
+pub fn write_line(rt: &HostRuntime, kind: u32, line: Line) -> io::Result<bool> {
     if line.count == 0 {
-        return false;
+        return Ok(false);
     }
-    write_kind(kind);
-    write_number(line.first);
-    write_number(line.second);
+    write_kind(rt, kind)?;
+    write_number(rt, line.first)?;
+    write_number(rt, line.second)?;
     if 2 < line.count {
-        write_number(line.third);
+        write_number(rt, line.third)?;
     }
     if 3 < line.count {
-        write_number(line.fourth);
+        write_number(rt, line.fourth)?;
     }
-    io::write_all(STDOUT_FILENO, b"\n");
-    true
+    rt.write_all(b"\n")?;
+    Ok(true)
 }

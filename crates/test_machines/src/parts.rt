@@ -8,7 +8,7 @@ use machine::sizes::{CONFIG_WORDS, DEST_CELLS, DEST_ROWS, GPRS, SETTINGS, SOURCE
 // How many times the machine's size each part has.
 pub const ROOM: usize = 2;
 
-#[derive(Drop)]
+#[derive(Clone, Copy)]
 pub struct Parts {
     pub control: Control,
     pub settings: [u16; ROOM * SETTINGS],

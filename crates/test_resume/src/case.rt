@@ -1,11 +1,12 @@
 // A case: its input made in the room lent, and answered.
-ghost use Rattle.std.specs.Prelude.{◌+◌, ◌≤◌, length};
+ghost use Rattle.std.specs.Prelude.{◌+◌, ◌≤◌, length, IfOk};
 
 use crate::lines::write_output;
 use format::number::read;
 use image_layout::IMAGE_BYTES;
-use libc::STDIN_FILENO;
+use program_io::read_full;
 use program_resume::RESUME_ROOM;
+use std::io;
 use test_machines::lengths::at_most;
 use test_machines::whole::seeded_machine;
 use whole_machine::images::save_whole;
@@ -50,13 +51,13 @@ fn end_of(at: usize, n: u32, len: usize) -> usize
 }
 
 // Reads `n` bytes of the case to `at`; answers where they end.
-fn read_to(room: &mut [u8], at: usize, n: u32) -> usize
+fn read_to(rt: &HostRuntime, room: &mut [u8], at: usize, n: u32) -> io::Result<usize>
     requires { at ≤ length room.old }
-    ensures { (at ≤ result) × (result ≤ length room.new) }
+    ensures { IfOk result (λ end. (at ≤ end) × (end ≤ length room.new)) }
 {
     let end = end_of(at, n, room.len());
-    io::read_full(STDIN_FILENO, &mut room[at..end]);
-    end
+    read_full(&mut rt.stdin(), &mut room[at..end])?;
+    Ok(end)
 }
 
 // Writes `n` bytes 2 from `at`; answers where they end.
@@ -81,27 +82,31 @@ fn set_byte(room: &mut [u8], place: u32, byte: u32) {
 }
 
 // Makes the input of a case; answers its length.
-fn make_input(c: Case, room: &mut [u8]) -> usize
-    ensures { result ≤ length room.new }
+fn make_input(rt: &HostRuntime, c: Case, room: &mut [u8]) -> io::Result<usize>
+    ensures { IfOk result (λ n. n ≤ length room.new) }
 {
     save_whole(seeded_machine(c.seed), room);
     let start = at_most(IMAGE_BYTES, room.len());
-    let a = read_to(room, start, c.before);
+    let a = read_to(rt, room, start, c.before)?;
     let b = fill_to(room, a, c.fill);
-    let e = read_to(room, b, c.after);
+    let e = read_to(rt, room, b, c.after)?;
     set_byte(room, c.place, c.byte);
-    end_of(0, c.keep, e)
+    Ok(end_of(0, c.keep, e))
 }
 
 // Answers the next case, in the room lent for it; whether there was one.
-pub(crate) fn answer(room: &mut [u8], out: &mut [u8; RESUME_ROOM]) -> bool {
+pub(crate) fn answer(
+    rt: &HostRuntime,
+    room: &mut [u8],
+    out: &mut [u8; RESUME_ROOM],
+) -> io::Result<bool> {
     let mut head = [0u8; CASE_BYTES];
-    let got = io::read_full(STDIN_FILENO, &mut head);
+    let got = read_full(&mut rt.stdin(), &mut head)?;
     if got < CASE_BYTES {
-        return false;
+        return Ok(false);
     }
-    let n = make_input(read_case(&head), room);
+    let n = make_input(rt, read_case(&head), room)?;
     let m = program_resume::resume(&room[..n], out);
-    write_output(out, m);
-    true
+    write_output(rt, out, m)?;
+    Ok(true)
 }

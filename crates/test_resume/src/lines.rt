@@ -2,7 +2,7 @@
 ghost use Rattle.std.specs.Prelude.{◌≤◌};
 
 use image_layout::IMAGE_BYTES;
-use libc::STDOUT_FILENO;
+use std::io;
 use test_machines::sums;
 
 // How much of an output is text: all of it, or all but the image at its end.
@@ -17,11 +17,12 @@ fn sum_of(s: &[u8]) -> u32 {
 }
 
 // The text of the first m bytes, and a line with the sum of them all.
-pub(crate) fn write_output(out: &[u8], m: usize) {
+pub(crate) fn write_output(rt: &HostRuntime, out: &[u8], m: usize) -> io::Result<()> {
     if m <= out.len() {
         let n = text_length(m);
-        io::write_all(STDOUT_FILENO, &out[..n]);
-        io::print_decimal(STDOUT_FILENO, sum_of(&out[..m]) as u64);
-        io::write_all(STDOUT_FILENO, b"\n");
+        rt.write_all(&out[..n])?;
+        rt.print(sum_of(&out[..m]) as u64)?;
+        rt.write_all(b"\n")?;
     }
+    Ok(())
 }

@@ -7,17 +7,23 @@ mod case;
 mod lines;
 
 use program_resume::{RESUME_READS, RESUME_ROOM};
+use std::io;
 
 // No input uses the turns up: they are what a proved loop counts down.
-fn answer_all(room: &mut [u8; RESUME_READS], out: &mut [u8; RESUME_ROOM]) {
+fn answer_all(
+    rt: &HostRuntime,
+    room: &mut [u8; RESUME_READS],
+    out: &mut [u8; RESUME_ROOM],
+) -> io::Result<()> {
     let mut turns = u32::MAX;
-    while turns > 0 && case::answer(room, out) {
+    while turns > 0 && case::answer(rt, room, out)? {
         turns -= 1;
     }
+    Ok(())
 }
 
-fn main() {
+fn main(rt: HostRuntime) -> io::Result<()> {
     let mut room = [0u8; RESUME_READS];
     let mut out = [0u8; RESUME_ROOM];
-    answer_all(&mut room, &mut out);
+    answer_all(&rt, &mut room, &mut out)
 }

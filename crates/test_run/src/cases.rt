@@ -1,5 +1,5 @@
 // A case: its machine, its run, and its line.
-ghost use Rattle.std.specs.Prelude.{◌+◌, ◌≤◌, ◌<◌, length};
+ghost use Rattle.std.specs.Prelude.{◌+◌, ◌≤◌, ◌<◌, length, IfOk};
 ghost use Rattle.test_machines.specs.Made.{made_bytes};
 
 use crate::input::{CASE_BYTES, cursor_at, take_stream, word_at};
@@ -8,6 +8,7 @@ use machine::control::Control;
 use machine::sizes::{CONFIG_WORDS, DEST_CELLS, DEST_ROWS, GPRS, SETTINGS, SOURCE_CELLS};
 use run::Ran;
 use run_order::cursor::Cursor;
+use std::io;
 use test_machines::digest::digest_lent;
 use test_machines::lengths::{at_most, lent_lengths};
 use test_machines::made::{MADE_BYTES, Made, read_made};
@@ -64,6 +65,7 @@ fn run_lent(
 
 // The run and the line. The digest is of all that there is of each part.
 fn run_told(
+    rt: &HostRuntime,
     case: Case,
     control: Control,
     settings: &mut [u16; ROOM * SETTINGS],
@@ -76,17 +78,17 @@ fn run_told(
     s0: &[u32],
     s1: &[u32],
     s2: &[u32],
-) {
+) -> io::Result<()> {
     let ran = run_lent(
         case, control, settings, gprs, config, dest, marks, src_a, src_b, s0, s1, s2,
     );
     let after = ran.control;
     let sum = digest_lent(after, settings, gprs, config, dest, marks, src_a, src_b);
-    write_line(ran, sum);
+    write_line(rt, ran, sum)
 }
 
 // The run on the machine of the case.
-fn run_machine(case: Case, s0: &[u32], s1: &[u32], s2: &[u32]) {
+fn run_machine(rt: &HostRuntime, case: Case, s0: &[u32], s1: &[u32], s2: &[u32]) -> io::Result<()> {
     let p = make(case.made);
     let mut settings = p.settings;
     let mut gprs = p.gprs;
@@ -96,6 +98,7 @@ fn run_machine(case: Case, s0: &[u32], s1: &[u32], s2: &[u32]) {
     let mut src_a = p.src_a;
     let mut src_b = p.src_b;
     run_told(
+        rt,
         case,
         p.control,
         &mut settings,
@@ -108,7 +111,7 @@ fn run_machine(case: Case, s0: &[u32], s1: &[u32], s2: &[u32]) {
         s0,
         s1,
         s2,
-    );
+    )
 }
 
 // What a case at `at` says beside its streams. Internal: it is there.
@@ -127,14 +130,15 @@ fn case_at(input: &[u8], at: usize) -> Case
 
 // The case that starts at `at`; answers where the next one starts. Internal: it is there up to its streams.
 pub(crate) fn run_case(
+    rt: &HostRuntime,
     input: &[u8],
     at: usize,
     s0: &mut [u32],
     s1: &mut [u32],
     s2: &mut [u32],
-) -> usize
+) -> io::Result<usize>
     requires { at + made_bytes + 20 ≤ length input.now }
-    ensures { (at < result) × (result ≤ length input.now) }
+    ensures { IfOk result (λ end. (at < end) × (end ≤ length input.now)) }
 {
     let case = case_at(input, at);
     let t0 = take_stream(input, at + CASE_BYTES, s0);
@@ -145,6 +149,6 @@ pub(crate) fn run_case(
     let n1 = t1.words;
     let t2 = take_stream(input, e1, s2);
     let n2 = t2.words;
-    run_machine(case, &s0[..n0], &s1[..n1], &s2[..n2]);
-    t2.end
+    run_machine(rt, case, &s0[..n0], &s1[..n1], &s2[..n2])?;
+    Ok(t2.end)
 }

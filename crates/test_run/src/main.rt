@@ -11,8 +11,9 @@ mod input;
 mod lines;
 
 use crate::input::CASE_BYTES;
-use libc::STDIN_FILENO;
 use machine::sizes::STREAM_WORDS;
+use program_io::read_full;
+use std::io;
 
 const INPUT_MOST: usize = 1048576;
 
@@ -21,42 +22,46 @@ const STREAM_ROOM: usize = STREAM_WORDS + 1;
 
 // The cases, one after the other, up to the input's end or a case that is cut.
 fn run_cases(
+    rt: &HostRuntime,
     input: &[u8],
     s0: &mut [u32; STREAM_ROOM],
     s1: &mut [u32; STREAM_ROOM],
     s2: &mut [u32; STREAM_ROOM],
-) {
+) -> io::Result<()> {
     let mut at = 0;
     while CASE_BYTES <= input.len() - at {
-        at = cases::run_case(input, at, s0, s1, s2);
+        at = cases::run_case(rt, input, at, s0, s1, s2)?;
     }
+    Ok(())
 }
 
 // The cases of standard input, which `input` takes.
 fn run_input(
+    rt: &HostRuntime,
     input: &mut [u8],
     s0: &mut [u32; STREAM_ROOM],
     s1: &mut [u32; STREAM_ROOM],
     s2: &mut [u32; STREAM_ROOM],
-) {
-    let n = io::read_full(STDIN_FILENO, input);
-    run_cases(&input[..n], s0, s1, s2);
+) -> io::Result<()> {
+    let n = read_full(&mut rt.stdin(), input)?;
+    run_cases(rt, &input[..n], s0, s1, s2)
 }
 
 // The same, in an array that is lent whole.
 fn run_in(
+    rt: &HostRuntime,
     input: &mut [u8; INPUT_MOST],
     s0: &mut [u32; STREAM_ROOM],
     s1: &mut [u32; STREAM_ROOM],
     s2: &mut [u32; STREAM_ROOM],
-) {
-    run_input(input, s0, s1, s2);
+) -> io::Result<()> {
+    run_input(rt, input, s0, s1, s2)
 }
 
-fn main() {
+fn main(rt: HostRuntime) -> io::Result<()> {
     let mut input = [0; INPUT_MOST];
     let mut s0 = [0; STREAM_ROOM];
     let mut s1 = [0; STREAM_ROOM];
     let mut s2 = [0; STREAM_ROOM];
-    run_in(&mut input, &mut s0, &mut s1, &mut s2);
+    run_in(&rt, &mut input, &mut s0, &mut s1, &mut s2)
 }

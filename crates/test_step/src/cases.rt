@@ -1,5 +1,5 @@
 // A group's machine, and its cases one after the other.
-ghost use Rattle.std.specs.Prelude.{◌+◌, ◌≤◌, ◌<◌, length};
+ghost use Rattle.std.specs.Prelude.{◌+◌, ◌≤◌, ◌<◌, length, IfOk};
 ghost use Rattle.test_machines.specs.Made.{made_bytes};
 
 use crate::input::{HEADER_BYTES, cases_end};
@@ -7,6 +7,7 @@ use crate::lines::write_line;
 use format::number::read;
 use machine::control::Control;
 use machine::sizes::{CONFIG_WORDS, DEST_CELLS, DEST_ROWS, GPRS, SETTINGS, SOURCE_CELLS};
+use std::io;
 use test_machines::digest::digest_lent;
 use test_machines::lengths::{at_most, lent_lengths};
 use test_machines::made::{MADE_BYTES, Made, read_made};
@@ -51,6 +52,7 @@ fn step_lent(
 
 // The word on the machine, and its line. The digest is of all that there is of each part.
 fn run_case(
+    rt: &HostRuntime,
     m: Made,
     control: Control,
     settings: &mut [u16; ROOM * SETTINGS],
@@ -62,19 +64,20 @@ fn run_case(
     src_b: &mut [u32; ROOM * SOURCE_CELLS],
     thread: u32,
     word: u32,
-) -> Control {
+) -> io::Result<Control> {
     let done = step_lent(
         m, control, settings, gprs, config, dest, marks, src_a, src_b, thread, word,
     );
     let after = done.control;
     let outcome = done.outcome;
     let sum = digest_lent(after, settings, gprs, config, dest, marks, src_a, src_b);
-    write_line(outcome, sum);
-    after
+    write_line(rt, outcome, sum)?;
+    Ok(after)
 }
 
 // The cases, each on the machine that the one before it left.
 fn run_cases(
+    rt: &HostRuntime,
     cases: &[u8],
     m: Made,
     control: Control,
@@ -85,7 +88,7 @@ fn run_cases(
     marks: &mut [bool; ROOM * DEST_ROWS],
     src_a: &mut [u32; ROOM * SOURCE_CELLS],
     src_b: &mut [u32; ROOM * SOURCE_CELLS],
-) {
+) -> io::Result<()> {
     let mut c = control;
     let mut at = 0;
     while 8 <= cases.len() - at {
@@ -93,13 +96,14 @@ fn run_cases(
         let word = read(cases, at + 4, 4);
         at += 8;
         c = run_case(
-            m, c, settings, gprs, config, dest, marks, src_a, src_b, thread, word,
-        );
+            rt, m, c, settings, gprs, config, dest, marks, src_a, src_b, thread, word,
+        )?;
     }
+    Ok(())
 }
 
 // The cases on the machine that is asked for.
-fn run_machine(m: Made, cases: &[u8]) {
+fn run_machine(rt: &HostRuntime, m: Made, cases: &[u8]) -> io::Result<()> {
     let p = make(m);
     let mut settings = p.settings;
     let mut gprs = p.gprs;
@@ -109,6 +113,7 @@ fn run_machine(m: Made, cases: &[u8]) {
     let mut src_a = p.src_a;
     let mut src_b = p.src_b;
     run_cases(
+        rt,
         cases,
         m,
         p.control,
@@ -119,18 +124,18 @@ fn run_machine(m: Made, cases: &[u8]) {
         &mut marks,
         &mut src_a,
         &mut src_b,
-    );
+    )
 }
 
 // The group that starts at `at`; answers where the next one starts.
-pub(crate) fn run_group(input: &[u8], at: usize) -> usize
+pub(crate) fn run_group(rt: &HostRuntime, input: &[u8], at: usize) -> io::Result<usize>
     requires { at + made_bytes + 4 ≤ length input.now }
-    ensures { (at < result) × (result ≤ length input.now) }
+    ensures { IfOk result (λ end. (at < end) × (end ≤ length input.now)) }
 {
     let m = read_made(input, at);
     let count = read(input, at + MADE_BYTES, 4);
     let from = at + HEADER_BYTES;
     let end = cases_end(from, count, input.len());
-    run_machine(m, &input[from..end]);
-    end
+    run_machine(rt, m, &input[from..end])?;
+    Ok(end)
 }

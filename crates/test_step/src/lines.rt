@@ -1,31 +1,27 @@
 // The printed lines.
-use libc::STDOUT_FILENO;
 use machine::refusal::{Outcome, refusal_number, stall_cause, stall_number};
+use std::io;
 
-fn write_number(start: &[u8], n: u32) {
-    io::write_all(STDOUT_FILENO, start);
-    io::print_decimal(STDOUT_FILENO, n as u64);
+fn write_number(rt: &HostRuntime, start: &[u8], n: u32) -> io::Result<()> {
+    rt.write_all(start)?;
+    rt.print(n as u64)
 }
 
-fn write_outcome(o: Outcome) {
+fn write_outcome(rt: &HostRuntime, o: Outcome) -> io::Result<()> {
     match o {
-        Outcome::Idle => {
-            io::write_all(STDOUT_FILENO, b"i");
-        }
-        Outcome::Passed => {
-            io::write_all(STDOUT_FILENO, b"p");
-        }
+        Outcome::Idle => rt.write_all(b"i"),
+        Outcome::Passed => rt.write_all(b"p"),
         Outcome::Stalled(s) => {
-            write_number(b"s ", stall_number(s));
-            write_number(b" ", stall_cause(s));
+            write_number(rt, b"s ", stall_number(s))?;
+            write_number(rt, b" ", stall_cause(s))
         }
-        Outcome::Refused(r) => write_number(b"r ", refusal_number(r)),
+        Outcome::Refused(r) => write_number(rt, b"r ", refusal_number(r)),
     }
 }
 
 // `p DIGEST`, `s NUMBER CAUSE DIGEST` or `r NUMBER DIGEST`.
-pub(crate) fn write_line(o: Outcome, digest: u32) {
-    write_outcome(o);
-    write_number(b" ", digest);
-    io::write_all(STDOUT_FILENO, b"\n");
+pub(crate) fn write_line(rt: &HostRuntime, o: Outcome, digest: u32) -> io::Result<()> {
+    write_outcome(rt, o)?;
+    write_number(rt, b" ", digest)?;
+    rt.write_all(b"\n")
 }

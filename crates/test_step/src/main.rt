@@ -10,30 +10,32 @@ mod input;
 mod lines;
 
 use crate::input::HEADER_BYTES;
-use libc::STDIN_FILENO;
+use program_io::read_full;
+use std::io;
 
 const INPUT_MOST: usize = 1048576;
 
 // The groups, one after the other, up to the input's end or a header that is cut.
-fn run_groups(input: &[u8]) {
+fn run_groups(rt: &HostRuntime, input: &[u8]) -> io::Result<()> {
     let mut at = 0;
     while HEADER_BYTES <= input.len() - at {
-        at = cases::run_group(input, at);
+        at = cases::run_group(rt, input, at)?;
     }
+    Ok(())
 }
 
 // The groups of standard input, which `input` takes.
-fn run_input(input: &mut [u8]) {
-    let n = io::read_full(STDIN_FILENO, input);
-    run_groups(&input[..n]);
+fn run_input(rt: &HostRuntime, input: &mut [u8]) -> io::Result<()> {
+    let n = read_full(&mut rt.stdin(), input)?;
+    run_groups(rt, &input[..n])
 }
 
 // The same, in an array that is lent whole.
-fn run_in(input: &mut [u8; INPUT_MOST]) {
-    run_input(input);
+fn run_in(rt: &HostRuntime, input: &mut [u8; INPUT_MOST]) -> io::Result<()> {
+    run_input(rt, input)
 }
 
-fn main() {
+fn main(rt: HostRuntime) -> io::Result<()> {
     let mut input = [0; INPUT_MOST];
-    run_in(&mut input);
+    run_in(&rt, &mut input)
 }
