@@ -1,4 +1,4 @@
--- M1 to m11: each word is decoded and done by computation, on any machine.
+-- M1 to M11: each word is decoded and done by computation, on any machine.
 use Prim.Native.Nat.{ℕ, ◌+◌, ◌*◌, ◌%◌, ◌^◌, ◌≤◌, ◌<◌}
 use mathlib.Core.Path.{◌≡◌, refl, ap, ◌∙◌}
 use mathlib.Core.Bool.{Bool, true, false, ◌&&◌}

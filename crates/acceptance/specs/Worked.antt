@@ -1,4 +1,4 @@
--- Document 01's worked examples M1 to m11, over the definitions that the contracts cite.
+-- Document 01's worked examples M1 to M11, over the definitions that the contracts cite.
 use Rattle.std.specs.Prelude.{ℕ, ◌<◌, ◌≤◌, ◌≡◌, true, false, ◌&&◌, List, [], ◌∷◌, length, set, get_or}
 use Rattle.bits.specs.Field.{flag, with_low}
 use Rattle.bits.specs.Overwrite.{over}

@@ -24,7 +24,7 @@ ghost use Rattle.acceptance.specs.Worked.{Worked};
 pub fn promises()
     // condition 3
     ensures isolated { Isolated }
-    // M1 to m11 of document 01
+    // M1 to M11 of document 01
     ensures worked { Worked }
     // a word that stalls or is refused changes nothing; a word keeps a well-formed machine well formed
     ensures unchanged { Unchanged }
