@@ -1,12 +1,13 @@
 -- Laws of a list written over from a place on.
 use Prim.Native.Nat.{ℕ, suc, ◌+◌, ◌-◌, ◌≤◌, ◌<◌}
-use mathlib.Core.Path.{◌≡◌, sym, subst, ◌∙◌}
+use mathlib.Core.Path.{◌≡◌, sym, ap, subst, ◌∙◌}
 use mathlib.Core.List.{List, [], ◌∷◌, ◌++◌, append_assoc, append-nil}
 use native.Mathlib.Nat.{add_assoc, add-zero}
 use native.Mathlib.Numerals.{add-one}
 use native.Mathlib.Omega.{arith}
 use lib.ListN.{length, take, drop, set, length-take, length-drop, length-append, take-append-drop, drop_of_length-le, replicate}
 use lib.Seq.{take_at, drop_at, drop-drop, set_split}
+use borrow.Rule.Slice.PartMut.{put_mid}
 use Rattle.bits.specs.Overwrite.{over, Wrote}
 
 pub over_long : {A : Type 0} (l : List A) (k : ℕ) (a : List A) → k + length a ≤ length l → length (over l k a) ≡ length l
@@ -73,3 +74,8 @@ wrote_within w h = rw (w.placed, w.list) (simp (length-append, length-take, leng
 -- the same bytes under another name
 pub wrote_as : {A : Type 0} {l m : List A} {k n : ℕ} {vs ws : List A} → vs ≡ ws → Wrote l k vs m n → Wrote l k ws m n
 wrote_as {A} {l} {m} {k} {n} e w = subst (λ (x : List A). Wrote l k x m n) e w
+
+-- a part of a list written over whole
+pub put_mid-over : {A : Type 0} (a k : ℕ) (l ys vs : List A) → ys ≡ vs → k ≡ length vs → put_mid a k l ys ≡ over l a vs
+unfolding over
+put_mid-over a k l ys vs e h = rw (e, h) (ap (λ x. take a l ++ (vs ++ x)) (drop-drop (length vs) a l))

@@ -1,6 +1,6 @@
 -- Laws of the tests over every number of a list.
 use Prim.Native.Nat.{ℕ, zero, suc, ◌+◌, ◌≤◌, ◌<◌}
-use mathlib.Core.Path.{◌≡◌, refl}
+use mathlib.Core.Path.{◌≡◌, refl, ap}
 use mathlib.Core.Bool.{true, ◌&&◌}
 use mathlib.Core.List.{List, [], ◌∷◌}
 use native.Mathlib.Numerals.{add-one}
@@ -11,6 +11,7 @@ use lib.Seq.{drop-cons, drop-length}
 use borrow.Author.Tests.{leb-true, le-leb}
 use Rattle.bits.specs.Ranges.{all_at_most}
 use Rattle.bits.proofs.Choices.{and_left, and_right, and_intro}
+use Rattle.std.specs.List.{list_all}
 
 -- one turn of a loop over the list, and its end
 pub at_most_step : (n : ℕ) (a : List ℕ) (i : ℕ) → i < length a → all_at_most n (drop i a) ≡ (leb (get_or a i 0) n && all_at_most n (drop (i + 1) a))
@@ -53,6 +54,8 @@ unfolding all_at_most
 at_most_replicate n zero v h = refl
 at_most_replicate n (suc k) v h = and_intro (leb v n) (all_at_most n (replicate k v)) (le-leb v n h) (at_most_replicate n k v h)
 
--- what the test of the first number says where all are in range by their type
-pub fits_all : (n : ℕ) (a : List ℕ) → ((i : ℕ) → get_or a i 0 ≤ n) → leb (get_or a 0 0) n ≡ all_at_most n a
-fits_all n a h = rw (at_most_all n a h) (le-leb (get_or a 0 0) n (h 0))
+-- the test of each number, left at the first that fails
+pub list_all-at_most : (n : ℕ) (a : List ℕ) → list_all (λ x. leb x n) a ≡ all_at_most n a
+unfolding all_at_most
+list_all-at_most n [] = refl
+list_all-at_most n (x ∷ xs) = ap (λ b. leb x n && b) (list_all-at_most n xs)

@@ -7,9 +7,5 @@ pub fn copy_words(src: &[u32], dst: &mut [u32], from: usize, to: usize, n: usize
     requires { (from + n ≤ length src.now) × (to + n ≤ length dst.old) }
     ensures { dst.new ≡ copied n from to src.now dst.old }
 {
-    let mut i: usize = 0;
-    while i < n {
-        dst[to + i] = src[from + i];
-        i += 1;
-    }
+    dst[to..to + n].copy_from_slice(&src[from..from + n]);
 }

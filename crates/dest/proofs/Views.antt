@@ -2,14 +2,9 @@
 use Prim.Native.Nat.{ℕ, ◌<◌}
 use mathlib.Core.Path.{◌≡◌}
 use borrow.Author.Tests.{lt-ltb}
-use Rattle.dest.specs.declared.rows.Row16.{Row16}
-use Rattle.dest.specs.declared.rows.Row16.TheVariants.{In16}
-use Rattle.dest.specs.declared.rows.Row32.{Row32}
-use Rattle.dest.specs.declared.rows.Row32.TheVariants.{In32}
-use Rattle.dest.specs.Rows.{rows16, rows32, view16, view32, row16_of, row32_of}
+use Rattle.std.specs.Prelude.{Option, Some}
+use Rattle.dest.specs.declared.rows.ViewRow.{ViewRow}
+use Rattle.dest.specs.Rows.{row_of}
 
-pub in_view16 : (n : ℕ) (r : Row16) → r ≡ row16_of n → n < rows16 → r ≡ In16 (view16 n)
-in_view16 n r e h = rw (lt-ltb n rows16 h) at e
-
-pub in_view32 : (n : ℕ) (r : Row32) → r ≡ row32_of n → n < rows32 → r ≡ In32 (view32 n)
-in_view32 n r e h = rw (lt-ltb n rows32 h) at e
+pub within_view : (rows n : ℕ) (r : Option (ViewRow rows)) → r ≡ row_of rows n → n < rows → r ≡ Some (record { 0 = n })
+within_view rows n r e h = rw (lt-ltb n rows h) at e

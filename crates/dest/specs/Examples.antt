@@ -1,6 +1,5 @@
 -- M7, M8 and M9 of document 01.
-use Rattle.std.specs.Prelude.{◌≡◌}
-use Rattle.dest.specs.declared.rows.Row32.TheVariants.{Past32}
+use Rattle.std.specs.Prelude.{◌≡◌, None}
 use Rattle.dest.specs.Rows.{view16, view32, storage_row, row32_of}
 use Rattle.dest.specs.Flags.{flags_of}
 use Rattle.dest.specs.Maps.{storage16, high32, low32}
@@ -15,6 +14,6 @@ pub record DestExamples : Type 0 where
   pub m8 :
       (high32 (flags_of 0) (view32 511) ≡ storage_row 1015)
       × (low32 (flags_of 0) (view32 511) ≡ storage_row 1023)
-      × (row32_of 512 ≡ Past32)
+      × (row32_of 512 ≡ None)
   -- swizzle only, row 16: 48 and 56
   pub m9 : (high32 (flags_of 2) (view32 16) ≡ storage_row 48) × (low32 (flags_of 2) (view32 16) ≡ storage_row 56)

@@ -2,6 +2,8 @@
 ghost use Rattle.std.specs.Prelude.{◌≡◌};
 ghost use Rattle.dest.specs.Flags.{flags_of};
 
+use bits::word::flag;
+
 // The Config word of a bank that holds them.
 pub const FLAG_WORD: usize = 255;
 
@@ -17,7 +19,7 @@ pub fn flags_of(word: u32) -> Flags
     ensures { result ≡ flags_of word }
 {
     Flags {
-        remap: word % 2 == 1,
-        swizzle: word / 2 % 2 == 1,
+        remap: flag::<0>(word),
+        swizzle: flag::<1>(word),
     }
 }

@@ -23,19 +23,13 @@ fn swizzle(r: u16) -> u16
 fn after_remap(flags: Flags, r: u16) -> u16
     ensures { result ≡ after_remap flags r }
 {
-    if flags.remap {
-        return remap(r);
-    }
-    r
+    if flags.remap { remap(r) } else { r }
 }
 
 fn after_swizzle(flags: Flags, r: u16) -> u16
     ensures { result ≡ after_swizzle flags r }
 {
-    if flags.swizzle {
-        return swizzle(r);
-    }
-    r
+    if flags.swizzle { swizzle(r) } else { r }
 }
 
 // The storage row of a 16-bit view row.

@@ -1,9 +1,7 @@
 -- What a call answers, in document 01's numbers, and what it leaves.
-use Rattle.std.specs.Prelude.{ℕ, Bool, cond, List, []}
+use Rattle.std.specs.Prelude.{ℕ, Bool, cond, List, [], Result, Ok, Err}
 use Rattle.machine.specs.declared.refusal.Refusal.{Refusal}
 use Rattle.machine.specs.Numbers.{number_of, values_of}
-use Rattle.machine.specs.declared.access.Access.{Access}
-use Rattle.machine.specs.declared.access.Access.TheVariants.{Granted, Refused}
 
 -- an answer as document 01 has it: what is told where the call is accepted, or the number that comes back with its values
 pub data Told (A : Type 0) : Type 0 where
@@ -14,9 +12,10 @@ pub data Told (A : Type 0) : Type 0 where
 abbrev pub refusal : {A : Type 0} → Refusal → Told A
 refusal r = refused (number_of r) (values_of r)
 
-abbrev pub told : Access → Told (Unit {0})
-told Granted = accepted tt
-told (Refused r) = refusal r
+-- what a call of the code's answers
+abbrev pub told : {A : Type 0} → Result A Refusal → Told A
+told (Ok x) = accepted x
+told (Err r) = refusal r
 
 -- refused by the number unless the test holds; the tests stand in the order of the numbers
 abbrev pub provided : {A : Type 0} → Bool → ℕ → Told A → Told A

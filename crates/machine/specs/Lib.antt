@@ -4,6 +4,7 @@ pub mod Units
 pub mod Places
 pub mod Control
 pub mod Machine
+pub mod Lent
 pub mod Formed
 pub mod Fresh
 pub mod Answers

@@ -1,9 +1,9 @@
 // The control part: all that decides whether a word passes. It goes in by value and comes back by value.
-ghost use Rattle.std.specs.Prelude.{◌≡◌, ◌<◌};
-ghost use Rattle.machine.specs.Sizes.{thread_count};
+ghost use Rattle.std.specs.Prelude.{◌≡◌};
 ghost use Rattle.machine.specs.Control.{thread_at, with_thread};
 
 use crate::sizes::{BANK_OWNERS, BANK_POINTERS, MUTEXES, SEMAPHORES};
+use crate::units::ThreadNumber;
 
 // A thread's wait: none, a stall wait, or a semaphore wait. The masks are the fields of STALLWAIT and SEMWAIT.
 #[derive(Clone, Copy)]
@@ -39,34 +39,30 @@ pub struct Control {
     pub pointers: [u8; BANK_POINTERS],
 }
 
-// A thread's part. Internal: the thread is in range.
-pub fn thread_of(c: Control, t: usize) -> Thread
-    requires { t < thread_count }
-    ensures { result ≡ thread_at c t }
-{
-    if t == 0 {
-        return c.t0;
+impl Control {
+    // A thread's part.
+    #[tactic(auto, unfolding(crate::specs::Control::thread_at))]
+    pub fn thread(self, t: ThreadNumber) -> Thread
+        ensures { result ≡ thread_at self t }
+    {
+        match t.index() {
+            0 => self.t0,
+            1 => self.t1,
+            _ => self.t2,
+        }
     }
-    if t == 1 {
-        return c.t1;
-    }
-    c.t2
-}
 
-// The control part with a thread's part replaced. Internal: the thread is in range.
-pub fn with_thread(c: Control, t: usize, x: Thread) -> Control
-    requires { t < thread_count }
-    ensures { result ≡ with_thread c t x }
-{
-    let mut d = c;
-    if t == 0 {
-        d.t0 = x;
-        return d;
+    // The control part with a thread's part replaced.
+    #[tactic(auto, unfolding(crate::specs::Control::with_thread))]
+    pub fn with_thread(self, t: ThreadNumber, x: Thread) -> Self
+        ensures { result ≡ with_thread self t x }
+    {
+        let mut d = self;
+        match t.index() {
+            0 => d.t0 = x,
+            1 => d.t1 = x,
+            _ => d.t2 = x,
+        }
+        d
     }
-    if t == 1 {
-        d.t1 = x;
-        return d;
-    }
-    d.t2 = x;
-    d
 }

@@ -1,4 +1,0 @@
-use Rattle.machine.proofs.access.provided.Goals as goal
-
-pub returns : goal.returns
-returns c = rw c.if-holds.false
