@@ -13,8 +13,7 @@ use Rattle.word_rules.specs.declared.instruction.CellWord.TheVariants.{TrnspSrcB
 use Rattle.word_rules.specs.declared.instruction.SyncWord.TheVariants.{AtGetM, AtRelM, StallWait, SemInit, SemPost, SemGet, SemWait}
 use Rattle.word_rules.specs.declared.instruction.Instruction.{Instruction}
 use Rattle.word_rules.specs.declared.instruction.Instruction.TheVariants.{Nop, Cell, Bank, Scalar, Sync, Config}
-use Rattle.word_rules.specs.declared.held.Held.{Held}
-use Rattle.word_rules.specs.declared.held.Held.TheVariants.{Free, By}
+use Rattle.std.specs.Prelude.{Option, Some, None}
 use Rattle.word_rules.specs.Waits.{held_by, is_held, named_by, wait_block, Gate, Open, Closed, mutex_open, own_gate, wait_gate}
 use Rattle.word_rules.specs.Offered.{wait_first, lifted_now, blocks_now, cause_in}
 
@@ -62,16 +61,16 @@ gate_now c t w i = go (held_by c w)
     held cause true = refl
     held cause false = sym (own_told cause c t i)
 
-    go : (h : Held) → wait_gate h (named_by (wait_block w) i) (own_gate c t i)
+    go : (h : Option ℕ) → wait_gate h (named_by (wait_block w) i) (own_gate c t i)
         ≡ told_gate (cause_in h) (wait_first (named_by (cond (is_held h) (wait_block w) 0) i) (own_gate c t i))
-    go Free = rw (none_named i) (sym (own_told 0 c t i))
-    go (By cause) = held cause (named_by (wait_block w) i)
+    go None = rw (none_named i) (sym (own_told 0 c t i))
+    go (Some cause) = held cause (named_by (wait_block w) i)
 
 -- a wait that doesn't name the word or is lifted leaves its own gate
-pub unheld : (h : Held) (named : Bool) (g : Gate) → (named && is_held h) ≡ false → wait_gate h named g ≡ g
-unheld Free named g e = refl
-unheld (By cause) true g e = never e
-unheld (By cause) false g e = refl
+pub unheld : (h : Option ℕ) (named : Bool) (g : Gate) → (named && is_held h) ≡ false → wait_gate h named g ≡ g
+unheld None named g e = refl
+unheld (Some cause) true g e = never e
+unheld (Some cause) false g e = refl
 
 -- what a thread's wait makes of its words, where the thread and its wait go by names
 pub judged_wait : (c : Control) (t : ℕ) (x : Thread) (w : Wait) (blocks cause : ℕ) (drops : Bool) → x ≡ thread_at c t → x.wait ≡ w →

@@ -14,8 +14,7 @@ use lib.Seq.{drop-cons, drop-length, take-length, take-suc-set, drop-set-lt}
 use Rattle.machine.specs.declared.control.Semaphore.{Semaphore}
 use Rattle.machine.proofs.Semaphores.{zero_semaphore}
 use Rattle.word_rules.specs.declared.semaphore_change.SemaphoreChange.{SemaphoreChange}
-use Rattle.word_rules.specs.declared.held.Held.{Held}
-use Rattle.word_rules.specs.declared.held.Held.TheVariants.{Free, By}
+use Rattle.std.specs.Prelude.{Option, Some, None}
 use Rattle.word_rules.specs.SyncWords.{masked_change, change_masked}
 use Rattle.word_rules.specs.Waits.{held_if, meets, masked_meets, semaphore_cause, semaphore_held}
 use Rattle.word_rules.specs.Offered.{meets_as}
@@ -55,18 +54,18 @@ as_small k s named = go named (meets k s) ((eqb k 1 || eqb k 3) && eqb s.value 0
     go false d z = omega arith
 
 -- one turn of the search, by as what the semaphore is held
-held_by : (k m n : ℕ) (s : Semaphore) (rest : Held) →
-    held_if (masked_meets k s m) (semaphore_cause k s n) rest ≡ cond (eqb (cond (low_bit m) (meets_as k s) 0) 0) rest (By (n + cond (low_bit m) (meets_as k s) 0))
+held_by : (k m n : ℕ) (s : Semaphore) (rest : Option ℕ) →
+    held_if (masked_meets k s m) (semaphore_cause k s n) rest ≡ cond (eqb (cond (low_bit m) (meets_as k s) 0) 0) rest (Some (n + cond (low_bit m) (meets_as k s) 0))
 held_by k m n s rest = go (low_bit m) (meets k s)
   where
     go : (b d : Bool) → held_if (b && d) (semaphore_cause k s n) rest
-        ≡ cond (eqb (cond b (cond d (semaphore_cause k s 0) 0) 0) 0) rest (By (n + cond b (cond d (semaphore_cause k s 0) 0) 0))
+        ≡ cond (eqb (cond b (cond d (semaphore_cause k s 0) 0) 0) 0) rest (Some (n + cond b (cond d (semaphore_cause k s 0) 0) 0))
     go true true = rw (ne_eqb (semaphore_cause k s 0) 0 (cause_some k s), cause_from k n s)
     go true false = refl
     go false d = refl
 
 pub held_step : (k : ℕ) (l : List Semaphore) (i m a : ℕ) → i < length l → a ≡ cond (low_bit m) (meets_as k (get_or l i zero_semaphore)) 0 →
-    semaphore_held k (drop i l) m i ≡ cond (eqb a 0) (semaphore_held k (drop (i + 1) l) (m / 2) (i + 1)) (By (i + a))
+    semaphore_held k (drop i l) m i ≡ cond (eqb a 0) (semaphore_held k (drop (i + 1) l) (m / 2) (i + 1)) (Some (i + a))
 unfolding semaphore_held
 held_step k l i m a h e =
     let s = get_or l i zero_semaphore in
@@ -74,7 +73,7 @@ held_step k l i m a h e =
     (ap (λ (n : ℕ). held_if (masked_meets k s m) (semaphore_cause k s i) (semaphore_held k (drop n l) (m / 2) (i + 1))) (sym (add-one i))
     ∙ held_by k m i s (semaphore_held k (drop (i + 1) l) (m / 2) (i + 1)))
 
-pub held_end : (k : ℕ) (l : List Semaphore) (i m : ℕ) → length l ≤ i → i ≤ length l → semaphore_held k (drop i l) m i ≡ Free
+pub held_end : (k : ℕ) (l : List Semaphore) (i m : ℕ) → length l ≤ i → i ≤ length l → semaphore_held k (drop i l) m i ≡ None
 unfolding semaphore_held
 held_end k l i m h j = let e : i ≡ length l = omega arith in rw (e, drop-length)
 

@@ -1,6 +1,6 @@
 -- What an offered word comes to and what it leaves, in the pieces that the functions of the code are lent. It serves their contracts alone:
 -- the rules are `decode_of`, `gate_of`, `control_after`, `settings_after` and `stores_after`, which `offer_of` of step_rules puts together.
-use Rattle.std.specs.Prelude.{ℕ, ◌≡◌, Bool, true, false, cond, ◌&&◌, not, List, eqb}
+use Rattle.std.specs.Prelude.{ℕ, ◌≡◌, Bool, true, false, cond, ◌&&◌, not, List, eqb, Option, Some, None}
 use Rattle.machine.specs.declared.control.Wait.{Wait}
 use Rattle.machine.specs.declared.control.Wait.TheVariants.{Clear, OnStall, OnSemaphore}
 use Rattle.machine.specs.declared.control.Semaphore.{Semaphore}
@@ -12,8 +12,6 @@ use Rattle.machine.specs.Outcomes.{Progress, idle, passed, stalled, has_passed, 
 use Rattle.word_rules.specs.declared.instruction.Instruction.{Instruction}
 use Rattle.word_rules.specs.declared.instruction.Instruction.TheVariants.{Nop, Cell, Bank, Scalar, Sync, Config}
 use Rattle.word_rules.specs.declared.stepped.Stepped.{Stepped}
-use Rattle.word_rules.specs.declared.held.Held.{Held}
-use Rattle.word_rules.specs.declared.held.Held.TheVariants.{Free, By}
 use Rattle.word_rules.specs.Waits.{meets, semaphore_cause, holds_now, wait_block, named_by, Gate, Open, Closed, cell_gate, own_gate}
 use Rattle.word_rules.specs.After.{word_after, settings_after, stores_after}
 
@@ -73,9 +71,9 @@ abbrev pub blocks_now : Control → Wait → ℕ
 blocks_now c w = cond (holds_now c w) (wait_block w) 0
 
 -- what it is held by, 0 where it is lifted
-abbrev pub cause_in : Held → ℕ
-cause_in Free = 0
-cause_in (By cause) = cause
+abbrev pub cause_in : Option ℕ → ℕ
+cause_in None = 0
+cause_in (Some cause) = cause
 
 -- ---- on the control part
 

@@ -1,14 +1,12 @@
 -- When a word waits (document 01, "Waits"; within a word the wait, 101, then the mutex, 102, then SrcB's owner, 103), and what for
 -- (document 02, K3). These definitions are given the control part, the thread and the instruction, and no store.
-use Rattle.std.specs.Prelude.{ℕ, ◌+◌, ◌-◌, ◌/◌, Bool, true, false, cond, ◌&&◌, ◌||◌, not, List, [], ◌∷◌, eqb, get_or}
+use Rattle.std.specs.Prelude.{ℕ, ◌+◌, ◌-◌, ◌/◌, Bool, true, false, cond, ◌&&◌, ◌||◌, not, List, [], ◌∷◌, eqb, get_or, Option, Some, None}
 use Rattle.bits.specs.Field.{flag, low_bit}
 use Rattle.machine.specs.declared.control.Wait.{Wait}
 use Rattle.machine.specs.declared.control.Wait.TheVariants.{Clear, OnStall, OnSemaphore}
 use Rattle.machine.specs.declared.control.Semaphore.{Semaphore}
 use Rattle.machine.specs.declared.control.Control.{Control}
 use Rattle.machine.specs.Control.{wait_of, matrix_bank, unpackers_own, matrix_owns}
-use Rattle.word_rules.specs.declared.held.Held.{Held}
-use Rattle.word_rules.specs.declared.held.Held.TheVariants.{Free, By}
 use Rattle.word_rules.specs.declared.instruction.SyncWord.{SyncWord}
 use Rattle.word_rules.specs.declared.instruction.SyncWord.TheVariants.{AtGetM, AtRelM, StallWait, SemInit, SemPost, SemGet, SemWait}
 use Rattle.word_rules.specs.declared.instruction.CellWord.{CellWord}
@@ -19,8 +17,8 @@ use Rattle.word_rules.specs.declared.instruction.Instruction.TheVariants.{Nop, C
 -- ---- what a wait is held by
 
 -- held by this where the test holds, else by what follows
-abbrev pub held_if : Bool → ℕ → Held → Held
-held_if test cause rest = cond test (By cause) rest
+abbrev pub held_if : Bool → ℕ → Option ℕ → Option ℕ
+held_if test cause rest = cond test (Some cause) rest
 
 -- C5: SrcA's unpack bank not owned by Unpackers; C6 the same for SrcB;
 -- C7: SrcA's matrix bank not owned by Matrix; C8 the same for SrcB. Other bits never hold.
@@ -37,13 +35,13 @@ abbrev pub named_holds : Control → ℕ → ℕ → Bool
 named_holds c k n = flag n k && condition_holds c n
 
 -- the lowest stall condition that the wait names and that holds
-unfoldable pub stall_held : Control → ℕ → Held
+unfoldable pub stall_held : Control → ℕ → Option ℕ
 stall_held c k =
     held_if (named_holds c k 5) 5
     (held_if (named_holds c k 6) 6
     (held_if (named_holds c k 7) 7
     (held_if (named_holds c k 8) 8
-    Free)))
+    None)))
 
 -- condition 1: the value is zero; 2: it equals its maximum; 3: either; 0: never
 abbrev pub meets : ℕ → Semaphore → Bool
@@ -62,18 +60,18 @@ abbrev pub semaphore_cause : ℕ → Semaphore → ℕ → ℕ
 semaphore_cause k s n = cond ((eqb k 1 || eqb k 3) && eqb s.value 0) (n + 16) (n + 24)
 
 -- the lowest semaphore of the mask that meets the condition; the first of these is semaphore n
-unfoldable pub semaphore_held : ℕ → List Semaphore → ℕ → ℕ → Held
-semaphore_held k [] m n = Free
+unfoldable pub semaphore_held : ℕ → List Semaphore → ℕ → ℕ → Option ℕ
+semaphore_held k [] m n = None
 semaphore_held k (s ∷ l) m n = held_if (masked_meets k s m) (semaphore_cause k s n) (semaphore_held k l (m / 2) (n + 1))
 
-abbrev pub held_by : Control → Wait → Held
-held_by c Clear = Free
+abbrev pub held_by : Control → Wait → Option ℕ
+held_by c Clear = None
 held_by c (OnStall block conditions) = stall_held c conditions
 held_by c (OnSemaphore block mask condition) = semaphore_held condition c.semaphores mask 0
 
-abbrev pub is_held : Held → Bool
-is_held Free = false
-is_held (By cause) = true
+abbrev pub is_held : Option ℕ → Bool
+is_held None = false
+is_held (Some cause) = true
 
 -- something in the wait holds now; where nothing does, the wait is lifted
 abbrev pub holds_now : Control → Wait → Bool
@@ -135,9 +133,9 @@ own_gate c t (Sync x) = sync_gate c t x
 own_gate c t (Config x) = Open
 
 -- a wait that isn't lifted stalls the words that it names
-abbrev pub wait_gate : Held → Bool → Gate → Gate
-wait_gate Free named gate = gate
-wait_gate (By cause) named gate = cond named (Closed 101 cause) gate
+abbrev pub wait_gate : Option ℕ → Bool → Gate → Gate
+wait_gate None named gate = gate
+wait_gate (Some cause) named gate = cond named (Closed 101 cause) gate
 
 -- the wait (101), then the mutex (102), then SrcB's owner (103)
 unfoldable pub gate_of : Control → ℕ → Instruction → Gate

@@ -2,7 +2,6 @@
 // each word says, when it waits and what it does. The functions are those that every word's code uses.
 #![tactic(auto)]
 
-pub mod held;
 pub mod instruction;
 pub mod semaphore_change;
 pub mod stepped;

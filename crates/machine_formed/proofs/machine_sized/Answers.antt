@@ -1,4 +1,0 @@
-use Rattle.machine_formed.proofs.machine_sized.Goals as goal
-
-pub returns : goal.returns
-returns c = cc
