@@ -33,6 +33,12 @@ pub neither : (a b : Bool) → (a || b) ≡ false → (a ≡ false) × (b ≡ fa
 neither true b h = never h
 neither false b h = (refl, h)
 
+-- tests that hold alike are one
+pub same_tests : (a b : Bool) → (a ≡ true → b ≡ true) → (b ≡ true → a ≡ true) → a ≡ b
+same_tests true b p q = sym (p refl)
+same_tests false true p q = q refl
+same_tests false false p q = refl
+
 -- what holds of both choices holds of the choice
 pub cond_both : {A : Type 0} (P : A → Type 0) (b : Bool) {x y : A} → P x → P y → P (cond b x y)
 cond_both P true p q = p

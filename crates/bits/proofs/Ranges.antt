@@ -1,7 +1,8 @@
 -- Laws of the tests over every number of a list.
 use Prim.Native.Nat.{ℕ, zero, suc, ◌+◌, ◌≤◌, ◌<◌}
-use mathlib.Core.Path.{◌≡◌, refl, ap}
-use mathlib.Core.Bool.{true, ◌&&◌}
+use mathlib.Core.Path.{◌≡◌, refl}
+use mathlib.Core.Bool.{Bool, true, ◌&&◌}
+use mathlib.Core.Logic.{◌↔◌}
 use mathlib.Core.List.{List, [], ◌∷◌}
 use native.Mathlib.Numerals.{add-one}
 use native.Mathlib.Omega.{arith}
@@ -10,8 +11,8 @@ use lib.ListN.{length, get_or, drop, set, replicate}
 use lib.Seq.{drop-cons, drop-length}
 use borrow.Author.Tests.{leb-true, le-leb}
 use Rattle.bits.specs.Ranges.{all_at_most}
-use Rattle.bits.proofs.Choices.{and_left, and_right, and_intro}
-use Rattle.std.specs.List.{list_all}
+use Rattle.bits.proofs.Choices.{and_left, and_right, and_intro, same_tests}
+use Rattle.std.specs.List.{All}
 
 -- one turn of a loop over the list, and its end
 pub at_most_step : (n : ℕ) (a : List ℕ) (i : ℕ) → i < length a → all_at_most n (drop i a) ≡ (leb (get_or a i 0) n && all_at_most n (drop (i + 1) a))
@@ -54,8 +55,23 @@ unfolding all_at_most
 at_most_replicate n zero v h = refl
 at_most_replicate n (suc k) v h = and_intro (leb v n) (all_at_most n (replicate k v)) (le-leb v n h) (at_most_replicate n k v h)
 
--- the test of each number, left at the first that fails
-pub list_all-at_most : (n : ℕ) (a : List ℕ) → list_all (λ x. leb x n) a ≡ all_at_most n a
+-- what the test of the first number says where all are in range by their type
+pub fits_all : (n : ℕ) (a : List ℕ) → ((i : ℕ) → get_or a i 0 ≤ n) → leb (get_or a 0 0) n ≡ all_at_most n a
+fits_all n a h = rw (at_most_all n a h) (le-leb (get_or a 0 0) n (h 0))
+
+-- the same as a fact of each number
+to_each : (n : ℕ) (a : List ℕ) → all_at_most n a ≡ true → All (λ x. x ≤ n) a
 unfolding all_at_most
-list_all-at_most n [] = refl
-list_all-at_most n (x ∷ xs) = ap (λ b. leb x n && b) (list_all-at_most n xs)
+to_each n [] e k d l = absurd (omega arith)
+to_each n (x ∷ xs) e zero d l = leb-true x n (and_left (leb x n) (all_at_most n xs) e)
+to_each n (x ∷ xs) e (suc k) d l = to_each n xs (and_right (leb x n) (all_at_most n xs) e) k d (omega arith)
+
+of_each : (n : ℕ) (a : List ℕ) → All (λ x. x ≤ n) a → all_at_most n a ≡ true
+unfolding all_at_most
+of_each n [] h = refl
+of_each n (x ∷ xs) h =
+    and_intro (leb x n) (all_at_most n xs) (le-leb x n (h 0 0 (omega arith))) (of_each n xs (λ k d l. h (suc k) d (omega arith)))
+
+-- what an iterator's `all` answers
+pub all-at_most : (n : ℕ) (a : List ℕ) (r : Bool) → (r ≡ true) ↔ All (λ x. x ≤ n) a → r ≡ all_at_most n a
+all-at_most n a r i = same_tests r (all_at_most n a) (λ e. of_each n a (i.0 e)) (λ e. i.1 (to_each n a e))

@@ -18,3 +18,18 @@ pub fn words_at_most(a: &[u32], most: u32) -> bool
     }
     fit
 }
+
+// True of every slice, by its type: no word is over 32 bits. With it, a check of a whole machine states what the types give, which is known of
+// a parameter and not of a field, nor where the type is a parameter: so there is one for each type.
+pub fn words_fit(a: &[u32]) -> bool
+    ensures { result ≡ all_at_most 4294967295 a.now }
+{
+    a.is_empty() || a[0] <= 0xffff_ffff
+}
+
+// The same of 16-bit numbers.
+pub fn halves_fit(a: &[u16]) -> bool
+    ensures { result ≡ all_at_most 65535 a.now }
+{
+    a.is_empty() || a[0] <= 65535
+}

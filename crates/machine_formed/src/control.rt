@@ -1,6 +1,6 @@
 // The checks of a machine's control part, in proved code.
-ghost use Rattle.std.specs.Prelude.{◌≡◌, length};
-ghost use Rattle.machine.specs.Sizes.{semaphore_count};
+ghost use Rattle.std.specs.Prelude.{◌≡◌};
+ghost use Rattle.bits.specs.Ranges.{all_at_most};
 ghost use Rattle.machine.specs.Formed.{wait_formed, semaphores_formed, mutexes_formed, banks_formed, waits_formed, control_formed};
 
 use machine::control::{Control, Semaphore, Wait};
@@ -14,78 +14,49 @@ fn wait_formed(w: Wait) -> bool
 {
     match w {
         Wait::Clear => true,
-        Wait::OnStall { block, conditions } => bits::both(
-            block <= BLOCK_MOST,
-            conditions <= CONDITIONS_MOST,
-        ),
+        Wait::OnStall { block, conditions } => block <= BLOCK_MOST && conditions <= CONDITIONS_MOST,
         Wait::OnSemaphore {
             block,
             mask,
             condition,
-        } => bits::both(
-            block <= BLOCK_MOST,
-            bits::both(mask <= MASK_MOST, condition <= CONDITION_MOST),
-        ),
+        } => block <= BLOCK_MOST && mask <= MASK_MOST && condition <= CONDITION_MOST,
     }
 }
 
-fn semaphores_formed(all: [Semaphore; SEMAPHORES]) -> bool
-    ensures { (result ≡ semaphores_formed all) × (length all ≡ semaphore_count) }
+fn semaphores_formed(all: &[Semaphore; SEMAPHORES]) -> bool
+    ensures { result ≡ semaphores_formed all.now }
 {
-    let mut i: usize = 0;
-    while i < SEMAPHORES {
-        let s = all[i];
-        if s.value > SEMAPHORE_MOST {
-            return false;
-        }
-        if s.maximum > SEMAPHORE_MOST {
-            return false;
-        }
-        i += 1;
-    }
-    true
+    all.iter().all(|s| s.value <= SEMAPHORE_MOST && s.maximum <= SEMAPHORE_MOST)
+}
+
+// Whether every number of `a` is at most `most`.
+fn bytes_at_most(a: &[u8], most: u8) -> bool
+    ensures { result ≡ all_at_most most a.now }
+{
+    a.iter().all(|x| *x <= most)
 }
 
 fn mutexes_formed(c: Control) -> bool
     ensures { result ≡ mutexes_formed c }
 {
-    let mutexes = c.mutexes;
-    bits::bytes_at_most(&mutexes, HOLDER_MOST)
+    bytes_at_most(&c.mutexes, HOLDER_MOST)
 }
 
 fn banks_formed(c: Control) -> bool
     ensures { result ≡ banks_formed c }
 {
-    let owners = c.owners;
-    let pointers = c.pointers;
-    let o = bits::bytes_at_most(&owners, 1);
-    let p = bits::bytes_at_most(&pointers, 1);
-    bits::both(o, p)
+    bytes_at_most(&c.owners, 1) && bytes_at_most(&c.pointers, 1)
 }
 
 fn waits_formed(c: Control) -> bool
     ensures { result ≡ waits_formed c }
 {
-    let t0 = c.t0;
-    let t1 = c.t1;
-    let t2 = c.t2;
-    let w0 = t0.wait;
-    let w1 = t1.wait;
-    let w2 = t2.wait;
-    bits::both(
-        wait_formed(w0),
-        bits::both(wait_formed(w1), wait_formed(w2)),
-    )
+    wait_formed(c.t0.wait) && wait_formed(c.t1.wait) && wait_formed(c.t2.wait)
 }
 
 // Whether each number of the control part is in its range.
 pub fn control_formed(c: Control) -> bool
     ensures { result ≡ control_formed c }
 {
-    let semaphores = c.semaphores;
-    let m = mutexes_formed(c);
-    let s = semaphores_formed(semaphores);
-    let b = banks_formed(c);
-    let w = waits_formed(c);
-    bits::both(m, bits::both(s, bits::both(b, w)))
+    mutexes_formed(c) && semaphores_formed(&c.semaphores) && banks_formed(c) && waits_formed(c)
 }
