@@ -1,98 +1,73 @@
 // ATGETM and ATRELM.
 ghost use Rattle.std.specs.Prelude.{◌≡◌, ◌<◌, set};
-ghost use Rattle.machine.specs.Sizes.{thread_count, mutex_count};
+ghost use Rattle.machine.specs.Sizes.{mutex_count};
 ghost use Rattle.word_rules.specs.Waits.{mutex_open};
 ghost use Rattle.word_rules.specs.SyncWords.{at_get_m_of, at_rel_m_of, released};
 ghost use Rattle.word_rules.specs.Offered.{told_stepped, control_offer};
 ghost use Rattle.machine.specs.Control.{with_mutexes};
 
 use crate::fields::{mutex, mutex_fine};
-use crate::wait_words::drop_if;
+use crate::turn::Turn;
 use machine::control::Control;
-use machine::refusal::{Outcome, StallCause};
+use machine::refusal::{Outcome, Refusal, StallCause};
+use machine::units::ThreadNumber;
 use word_rules::stepped::Stepped;
-use word_rules::verdict::{b1, stopped, verdict};
+use word_rules::verdict::stalls;
 
 // A mutex's holder replaced. Internal: the mutex is in range.
 fn with_mutex(c: Control, m: usize, holder: u8) -> Control
     requires { m < mutex_count }
     ensures { result ≡ with_mutexes c (set c.mutexes m holder) }
 {
-    let mut mutexes = c.mutexes;
-    mutexes[m] = holder;
     let mut d = c;
-    d.mutexes = mutexes;
+    d.mutexes[m] = holder;
     d
 }
 
-// A mutex freed, if it is the thread's. Internal: mutex and thread are in range.
-fn release(c: Control, m: usize, t: usize) -> Control
-    requires { (m < mutex_count) × (t < thread_count) }
+// A mutex freed, if it is the thread's. Internal: the mutex is in range.
+fn release(c: Control, m: usize, t: ThreadNumber) -> Control
+    requires { m < mutex_count }
     ensures { result ≡ with_mutexes c (released c.mutexes m t) }
 {
-    let mutexes = c.mutexes;
-    let holder = mutexes[m];
-    if holder == t as u8 + 1 {
+    if c.mutexes[m] == t.index() as u8 + 1 {
         return with_mutex(c, m, 0);
     }
     c
 }
 
-// Whether ATGETM passes. Internal: the thread is in range.
-fn mutex_open(holder: u8, t: usize) -> bool
-    requires { t < thread_count }
+// Whether ATGETM passes.
+fn mutex_open(holder: u8, t: ThreadNumber) -> bool
     ensures { result ≡ mutex_open holder t }
 {
-    bits::either(holder == 0, holder == t as u8 + 1)
+    holder == 0 || holder == t.index() as u8 + 1
 }
 
-// ATGETM: takes a free one, passes if already its own, else waits. Internal: the thread is in range.
-pub(crate) fn at_get_m(c: Control, t: usize, word: u32, blocks: u16, drops: bool) -> Stepped
-    requires { t < thread_count }
-    ensures { told_stepped result ≡ control_offer blocks drops c t (at_get_m_of word) }
+// ATGETM: takes a free one, passes if already its own, else waits.
+#[tactic(auto, unfolding(word_rules::specs::Offered::control_offer))]
+pub(crate) fn at_get_m(turn: Turn, word: u32) -> Stepped
+    ensures { told_stepped result ≡ control_offer turn.blocks turn.drops turn.control turn.thread (at_get_m_of word) }
 {
-    let fine = mutex_fine(word);
-    let stalls = b1(blocks);
-    if stopped(true, fine, stalls) {
-        return Stepped {
-            outcome: verdict(true, fine, stalls),
-            control: c,
-        };
+    if !mutex_fine(word) {
+        return turn.kept(Outcome::Refused(Refusal::BadField));
     }
     let m = mutex(word) as usize;
-    let mutexes = c.mutexes;
-    let holder = mutexes[m];
-    if mutex_open(holder, t) {
-        let d = drop_if(c, t, drops);
-        return Stepped {
-            outcome: Outcome::Passed,
-            control: with_mutex(d, m, t as u8 + 1),
-        };
+    let holder = turn.control.mutexes[m];
+    let t = turn.thread;
+    if !stalls::<1>(turn.blocks) && !mutex_open(holder, t) {
+        return turn.kept(Outcome::Stalled(StallCause::MutexHeld(holder as u32 - 1)));
     }
-    let by = holder as u32 - 1;
-    Stepped {
-        outcome: Outcome::Stalled(StallCause::MutexHeld(by)),
-        control: c,
-    }
+    turn.gated::<1, _>(|d| with_mutex(d, m, t.index() as u8 + 1))
 }
 
-// ATRELM: frees its own, else no effect. Internal: the thread is in range.
-pub(crate) fn at_rel_m(c: Control, t: usize, word: u32, blocks: u16, drops: bool) -> Stepped
-    requires { t < thread_count }
-    ensures { told_stepped result ≡ control_offer blocks drops c t (at_rel_m_of word) }
+// ATRELM: frees its own, else no effect.
+#[tactic(auto, unfolding(word_rules::specs::Offered::control_offer))]
+pub(crate) fn at_rel_m(turn: Turn, word: u32) -> Stepped
+    ensures { told_stepped result ≡ control_offer turn.blocks turn.drops turn.control turn.thread (at_rel_m_of word) }
 {
-    let fine = mutex_fine(word);
-    let stalls = b1(blocks);
-    if stopped(true, fine, stalls) {
-        return Stepped {
-            outcome: verdict(true, fine, stalls),
-            control: c,
-        };
+    if !mutex_fine(word) {
+        return turn.kept(Outcome::Refused(Refusal::BadField));
     }
     let m = mutex(word) as usize;
-    let d = drop_if(c, t, drops);
-    Stepped {
-        outcome: Outcome::Passed,
-        control: release(d, m, t),
-    }
+    let t = turn.thread;
+    turn.gated::<1, _>(|d| release(d, m, t))
 }

@@ -1,6 +1,5 @@
 // SEMINIT, SEMPOST and SEMGET: each changes the semaphores of its mask.
-ghost use Rattle.std.specs.Prelude.{◌≡◌, ◌<◌};
-ghost use Rattle.machine.specs.Sizes.{thread_count};
+ghost use Rattle.std.specs.Prelude.{◌≡◌};
 ghost use Rattle.machine.specs.Answers.{accepted};
 ghost use Rattle.word_rules.specs.declared.instruction.SyncWord.{SyncWord};
 ghost use Rattle.word_rules.specs.declared.instruction.Instruction.TheVariants.{Sync};
@@ -10,34 +9,14 @@ ghost use Rattle.word_control.specs.Changes.{Changes};
 
 use crate::fields::mask;
 use crate::semaphores::change_semaphores;
-use crate::wait_words::drop_if;
-use machine::control::Control;
-use machine::refusal::{Outcome, StallCause};
+use crate::turn::Turn;
 use word_rules::semaphore_change::SemaphoreChange;
 use word_rules::stepped::Stepped;
-use word_rules::verdict::b1;
 
-// One of the three, by what it does to each semaphore of its mask. Internal: the thread is in range.
-pub(crate) fn change_word(
-    c: Control,
-    t: usize,
-    word: u32,
-    k: SemaphoreChange,
-    blocks: u16,
-    drops: bool,
-) -> Stepped
-    requires { t < thread_count }
-    ensures { (x : SyncWord) → Changes k (mask_of word) x → told_stepped result ≡ control_offer blocks drops c t (accepted (Sync x)) }
+// One of the three, by what it does to each semaphore of its mask.
+pub(crate) fn change_word(turn: Turn, word: u32, k: SemaphoreChange) -> Stepped
+    ensures { (x : SyncWord) → Changes k (mask_of word) x → told_stepped result ≡ control_offer turn.blocks turn.drops turn.control turn.thread (accepted (Sync x)) }
 {
-    if b1(blocks) {
-        return Stepped {
-            outcome: Outcome::Stalled(StallCause::WaitHolds(0)),
-            control: c,
-        };
-    }
-    let d = drop_if(c, t, drops);
-    Stepped {
-        outcome: Outcome::Passed,
-        control: change_semaphores(d, mask(word), k),
-    }
+    let mask = mask(word);
+    turn.gated::<1, _>(|d| change_semaphores(d, mask, k))
 }

@@ -15,7 +15,7 @@ fn changed(s: Semaphore, k: SemaphoreChange) -> Semaphore
             if s.value < SEMAPHORE_MOST {
                 return Semaphore {
                     value: s.value + 1,
-                    maximum: s.maximum,
+                    ..s
                 };
             }
             s
@@ -24,7 +24,7 @@ fn changed(s: Semaphore, k: SemaphoreChange) -> Semaphore
             if 0 < s.value {
                 return Semaphore {
                     value: s.value - 1,
-                    maximum: s.maximum,
+                    ..s
                 };
             }
             s
@@ -36,10 +36,7 @@ fn changed(s: Semaphore, k: SemaphoreChange) -> Semaphore
 fn changed_if(s: Semaphore, m: u8, k: SemaphoreChange) -> Semaphore
     ensures { result ≡ masked_change k s m }
 {
-    if m % 2 == 1 {
-        return changed(s, k);
-    }
-    s
+    if m % 2 == 1 { changed(s, k) } else { s }
 }
 
 // Each semaphore of the mask changed.
@@ -52,12 +49,9 @@ fn change_masked(
 {
     let mut a = all;
     let mut m = mask;
-    let mut i: usize = 0;
-    while i < SEMAPHORES {
-        let s = a[i];
-        a[i] = changed_if(s, m, k);
-        m = m / 2;
-        i += 1;
+    for s in &mut a {
+        *s = changed_if(*s, m, k);
+        m /= 2;
     }
     a
 }
@@ -66,9 +60,7 @@ fn change_masked(
 pub(crate) fn change_semaphores(c: Control, mask: u8, k: SemaphoreChange) -> Control
     ensures { result ≡ change_semaphores c mask k }
 {
-    let all = c.semaphores;
-    let changed = change_masked(all, mask, k);
     let mut d = c;
-    d.semaphores = changed;
+    d.semaphores = change_masked(c.semaphores, mask, k);
     d
 }

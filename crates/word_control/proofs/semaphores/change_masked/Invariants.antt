@@ -2,12 +2,8 @@ use Rattle.word_rules.specs.SyncWords.{change_masked}
 use lib.ListN.{length, drop, take}
 use mathlib.Core.List.{◌++◌}
 use mathlib.Core.Path.{◌≡◌}
-use Prim.Native.Nat.{◌≤◌, ◌-◌}
 use Rattle.word_control.proofs.semaphores.change_masked.Given as goal
 
-abbrev pub invariant-loop-i : goal.invariant-loop-i
-invariant-loop-i l =
-    (l.i ≤ 8) × (length l.a ≡ 8) × (change_masked l.k l.initial.a l.mask ≡ take l.i l.a ++ change_masked l.k (drop l.i l.a) l.m)
-
-abbrev pub decreases-loop-i : goal.decreases-loop-i
-decreases-loop-i l = 8 - l.i
+abbrev pub invariant-loop-s : goal.invariant-loop-s
+invariant-loop-s l =
+    (length l.s-items ≡ 8) × (change_masked l.k l.fn.all l.mask ≡ take l.s-index l.s-items ++ change_masked l.k (drop l.s-index l.s-items) l.m)
