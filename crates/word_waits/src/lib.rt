@@ -1,28 +1,33 @@
 // What a thread's wait makes of its words now. Nothing here is lent a store.
 #![tactic(auto)]
 
-ghost use Rattle.std.specs.Prelude.{◌≡◌, true, cond, not, ◌&&◌, ◌<◌};
-ghost use Rattle.bits.specs.Field.{low_bit};
-ghost use Rattle.machine.specs.Sizes.{thread_count};
-ghost use Rattle.machine.specs.Control.{wait_of, unpackers_own, matrix_owns};
+ghost use Rattle.std.specs.Prelude.{◌≡◌, true, cond, not, ◌&&◌, ◌<◌, ◌≤◌, ◌+◌, None, eqb, get_or};
+ghost use Rattle.machine.specs.Control.{wait_of, owner_of, unpackers_own, matrix_owns};
 ghost use Rattle.machine.specs.Formed.{control_formed};
-ghost use Rattle.word_rules.specs.Waits.{held_if, stall_held, semaphore_held, held_by, is_held};
-ghost use Rattle.word_rules.specs.declared.held.Held.TheVariants.{Free};
-ghost use Rattle.word_rules.specs.Offered.{lifted_now, meets_as, blocks_now, cause_in};
+ghost use Rattle.word_rules.specs.Waits.{held_if, meets, masked_meets, semaphore_cause, stall_held, semaphore_held, held_by, is_held};
+ghost use Rattle.word_rules.specs.Offered.{lifted_now, blocks_now, cause_in};
 
+use bits::word;
 use machine::control::{Control, Semaphore, Wait};
 use machine::sizes::SEMAPHORES;
-use word_rules::held::Held;
+use machine::units::ThreadNumber;
+
+// Whether a unit owns the bank at a source file's pointer: OWNER is the unit, whose pointers stand from FIRST on. Internal, as all below.
+#[tactic(auto, using(machine::proofs::ControlFacts::pointer_at))]
+fn owns<const FIRST: usize, const OWNER: u8>(c: Control, file: usize) -> bool
+    requires { (control_formed c ≡ true) × (file < 2) × (FIRST ≤ 2) }
+    ensures { result ≡ eqb (owner_of c file (get_or c.pointers (FIRST + file) 0)) OWNER }
+{
+    let bank = c.pointers[FIRST + file] as usize;
+    c.owners[2 * file + bank] == OWNER
+}
 
 // Whether Unpackers own the bank at a source file's unpack pointer. Internal: file 0 is SrcA, 1 is SrcB.
 pub fn unpackers_own(c: Control, file: usize) -> bool
     requires { (control_formed c ≡ true) × (file < 2) }
     ensures { result ≡ unpackers_own c file }
 {
-    let pointers = c.pointers;
-    let owners = c.owners;
-    let bank = pointers[2 + file] as usize;
-    owners[2 * file + bank] == 0
+    owns::<2, 0>(c, file)
 }
 
 // Whether Matrix owns the bank at a source file's matrix pointer. Internal.
@@ -30,99 +35,61 @@ pub fn matrix_owns(c: Control, file: usize) -> bool
     requires { (control_formed c ≡ true) × (file < 2) }
     ensures { result ≡ matrix_owns c file }
 {
-    let pointers = c.pointers;
-    let owners = c.owners;
-    let bank = pointers[file] as usize;
-    owners[2 * file + bank] == 1
-}
-
-// Whether the condition is named and its bank is not owned as it should be.
-fn fails(named: bool, owned: bool) -> bool
-    ensures { result ≡ (named && not owned) }
-{
-    if named { !owned } else { false }
-}
-
-// The lowest of C5 to C8 that holds, where these do.
-fn lowest_of(c5: bool, c6: bool, c7: bool, c8: bool) -> Held
-    ensures { result ≡ held_if c5 5 (held_if c6 6 (held_if c7 7 (held_if c8 8 Free))) }
-{
-    if c5 {
-        return Held::By(5);
-    }
-    if c6 {
-        return Held::By(6);
-    }
-    if c7 {
-        return Held::By(7);
-    }
-    if c8 {
-        return Held::By(8);
-    }
-    Held::Free
+    owns::<0, 1>(c, file)
 }
 
 // The lowest stall condition that is named and holds now. Internal: the control part is in range.
-fn stall_held(c: Control, k: u32) -> Held
+#[tactic(auto, unfolding(word_rules::specs::Waits::stall_held))]
+fn stall_held(c: Control, k: u32) -> Option<u8>
     requires { control_formed c ≡ true }
     ensures { result ≡ stall_held c k }
 {
-    let c5 = fails(k / 32 % 2 == 1, unpackers_own(c, 0));
-    let c6 = fails(k / 64 % 2 == 1, unpackers_own(c, 1));
-    let c7 = fails(k / 128 % 2 == 1, matrix_owns(c, 0));
-    let c8 = fails(k / 256 % 2 == 1, matrix_owns(c, 1));
-    lowest_of(c5, c6, c7, c8)
+    let c5 = word::flag::<5>(k) && !unpackers_own(c, 0);
+    let c6 = word::flag::<6>(k) && !unpackers_own(c, 1);
+    let c7 = word::flag::<7>(k) && !matrix_owns(c, 0);
+    let c8 = word::flag::<8>(k) && !matrix_owns(c, 1);
+    c5.then_some(5)
+        .or(c6.then_some(6))
+        .or(c7.then_some(7))
+        .or(c8.then_some(8))
 }
 
-// A number where something holds, else another.
-fn chosen(holds: bool, number: u8, rest: u8) -> u8
-    ensures { result ≡ cond holds number rest }
-{
-    if holds { number } else { rest }
-}
-
-// As what a semaphore meets the condition, so that its number plus this is the cause: 16 as zero, 24 as full, 0 where it does not.
-fn meets_as(s: Semaphore, condition: u8) -> u8
-    ensures { result ≡ meets_as condition s }
+// As what a semaphore meets the condition, so that its number plus this is the cause: 16 as zero, 24 as full.
+fn meets_as(s: Semaphore, condition: u8) -> Option<u8>
+    ensures { result ≡ held_if (meets condition s) (semaphore_cause condition s 0) None }
 {
     let zero = s.value == 0;
     let full = s.value == s.maximum;
     match condition {
-        1 => chosen(zero, 16, 0),
-        2 => chosen(full, 24, 0),
-        3 => chosen(zero, 16, chosen(full, 24, 0)),
-        _ => 0,
+        1 | 3 if zero => Some(16),
+        2 | 3 if full => Some(24),
+        _ => None,
     }
 }
 
-// The same where the mask's lowest bit is the semaphore's, else 0.
-fn masked_as(s: Semaphore, m: u8, condition: u8) -> u8
-    ensures { result ≡ cond (low_bit m) (meets_as condition s) 0 }
+// The same where the mask's lowest bit is the semaphore's.
+fn masked_as(s: Semaphore, m: u8, condition: u8) -> Option<u8>
+    ensures { result ≡ held_if (masked_meets condition s m) (semaphore_cause condition s 0) None }
 {
     if m % 2 == 1 {
         meets_as(s, condition)
     } else {
-        0
+        None
     }
 }
 
 // The lowest semaphore of the mask that meets the condition.
-fn semaphore_held(all: [Semaphore; SEMAPHORES], mask: u8, condition: u8) -> Held
-    ensures { result ≡ semaphore_held condition all mask 0 }
+fn semaphore_held(all: &[Semaphore; SEMAPHORES], mask: u8, condition: u8) -> Option<u8>
+    ensures { result ≡ semaphore_held condition all.now mask 0 }
 {
     let mut m = mask;
-    let mut i: usize = 0;
-    while i < SEMAPHORES {
-        let s = all[i];
-        let held_as = masked_as(s, m, condition);
-        if held_as != 0 {
-            let cause = i as u8 + held_as;
-            return Held::By(cause);
+    for (i, s) in all.iter().enumerate() {
+        if let Some(held_as) = masked_as(*s, m, condition) {
+            return Some(i as u8 + held_as);
         }
-        m = m / 2;
-        i += 1;
+        m /= 2;
     }
-    Held::Free
+    None
 }
 
 // The block bits that a thread's wait stalls now, what it is held by, and whether it is lifted, so that a passing word drops it.
@@ -134,16 +101,16 @@ pub struct Judged {
 }
 
 // A wait with this block, by what it is held by.
-fn judged_by(block: u16, held: Held) -> Judged
+fn judged_by(block: u16, held: Option<u8>) -> Judged
     ensures { (result.blocks ≡ cond (is_held held) block 0) × (result.cause ≡ cause_in held) × (result.drops ≡ not (is_held held)) }
 {
     match held {
-        Held::Free => Judged {
+        None => Judged {
             blocks: 0,
             cause: 0,
             drops: true,
         },
-        Held::By(cause) => Judged {
+        Some(cause) => Judged {
             blocks: block,
             cause: cause as u32,
             drops: false,
@@ -151,14 +118,12 @@ fn judged_by(block: u16, held: Held) -> Judged
     }
 }
 
-// The wait is judged once a turn. Internal: the control part and the thread are in range.
-pub fn judge(c: Control, t: usize) -> Judged
-    requires { (control_formed c ≡ true) × (t < thread_count) }
+// The wait is judged once a turn. Internal: the control part is in range.
+pub fn judge(c: Control, t: ThreadNumber) -> Judged
+    requires { control_formed c ≡ true }
     ensures { (result.blocks ≡ blocks_now c (wait_of c t)) × (result.cause ≡ cause_in (held_by c (wait_of c t))) × (result.drops ≡ lifted_now c (wait_of c t)) }
 {
-    let thread = machine::control::thread_of(c, t);
-    let wait = thread.wait;
-    match wait {
+    match c.thread(t).wait {
         Wait::Clear => Judged {
             blocks: 0,
             cause: 0,
@@ -169,9 +134,6 @@ pub fn judge(c: Control, t: usize) -> Judged
             block,
             mask,
             condition,
-        } => {
-            let all = c.semaphores;
-            judged_by(block, semaphore_held(all, mask, condition))
-        }
+        } => judged_by(block, semaphore_held(&c.semaphores, mask, condition)),
     }
 }

@@ -1,52 +1,54 @@
-use Rattle.word_rules.proofs.Masks.{as_small, held_step, held_end}
-use Rattle.bits.specs.Field.{low_bit}
+use Rattle.std.proofs.Common.{ℕ, ◌≡◌, ◌+◌, ◌/◌, ◌<◌, Bool, true, false, cond, ◌&&◌, ◌||◌, List, length, drop, get_or, eqb, Option, Some, None, refl, sym, ◌∙◌, arith, add-one}
+use Rattle.machine.specs.declared.control.Semaphore.{Semaphore}
 use Rattle.machine.proofs.Semaphores.{zero_semaphore}
-use lib.ListN.{length, get_or}
-use borrow.Author.Tests.{eq-eqb, ne_eqb}
-use native.Mathlib.Omega.{arith}
-use mathlib.Core.Path.{refl}
-use Prim.Native.Nat.{◌≤◌, ◌<◌}
-use Rattle.std.proofs.Common.{rules}
+use Rattle.word_rules.specs.Waits.{held_if, masked_meets, semaphore_cause, semaphore_held}
+use Rattle.word_rules.proofs.Masks.{held_end}
+use lib.Seq.{drop-cons}
 use Rattle.word_waits.proofs.semaphore_held.Goals as goal
 
-pub loop-i-init : goal.loop-i-init
-loop-i-init c = (search rules, search rules, refl)
+-- one turn of the search
+step : (k : ℕ) (l : List Semaphore) (i m : ℕ) → i < length l →
+    semaphore_held k (drop i l) m i
+    ≡ held_if (masked_meets k (get_or l i zero_semaphore) m) (semaphore_cause k (get_or l i zero_semaphore) i) (semaphore_held k (drop (i + 1) l) (m / 2) (i + 1))
+unfolding semaphore_held
+step k l i m h = rw (drop-cons l i zero_semaphore h, add-one) refl
 
-pub offset_bounds-all-i : goal.offset_bounds-all-i
-offset_bounds-all-i c = omega arith
+-- it ends at a semaphore of the mask that meets the condition
+found : (k : ℕ) (l : List Semaphore) (i m a : ℕ) → i < length l →
+    Some a ≡ held_if (masked_meets k (get_or l i zero_semaphore) m) (semaphore_cause k (get_or l i zero_semaphore) 0) None →
+    semaphore_held k (drop i l) m i ≡ Some (i + a)
+found k l i m a h e =
+    let s = get_or l i zero_semaphore in
+    step k l i m h ∙ go (masked_meets k s m) ((eqb k 1 || eqb k 3) && eqb s.value 0) (semaphore_held k (drop (i + 1) l) (m / 2) (i + 1)) e
+  where
+    go : (b z : Bool) (rest : Option ℕ) → Some a ≡ held_if b (cond z (0 + 16) (0 + 24)) None → held_if b (cond z (i + 16) (i + 24)) rest ≡ Some (i + a)
+    go true true rest d = cc
+    go true false rest d = cc
+    go false z rest d = absurd cc
 
-pub bounds-all-i : goal.bounds-all-i
-bounds-all-i c = omega arith
+-- it passes any other
+passed : (k : ℕ) (l : List Semaphore) (i m : ℕ) → i < length l →
+    None ≡ held_if (masked_meets k (get_or l i zero_semaphore) m) (semaphore_cause k (get_or l i zero_semaphore) 0) None →
+    semaphore_held k (drop i l) m i ≡ semaphore_held k (drop (i + 1) l) (m / 2) (i + 1)
+passed k l i m h e =
+    let s = get_or l i zero_semaphore in
+    step k l i m h ∙ go (masked_meets k s m) (semaphore_cause k s 0) (semaphore_cause k s i) (semaphore_held k (drop (i + 1) l) (m / 2) (i + 1)) e
+  where
+    go : (b : Bool) (a n : ℕ) (rest : Option ℕ) → None ≡ held_if b a None → held_if b n rest ≡ rest
+    go true a n rest d = absurd cc
+    go false a n rest d = refl
 
-pub masked_as-held_as-requires : goal.masked_as-held_as-requires
-masked_as-held_as-requires c = tt
-
-pub overflow_cast-cause : goal.overflow_cast-cause
-overflow_cast-cause c = omega arith
-
-pub overflow_add-cause : goal.overflow_add-cause
-overflow_add-cause c =
+pub returns-in-Some : goal.returns-in-Some
+returns-in-Some c =
     let a = c.args in
-    let small : c.masked_as-held_as.result ≤ 24 = rw c.masked_as-held_as.ensures (as_small a.condition (get_or a.all c.loop-i.i zero_semaphore) (low_bit c.loop-i.m)) in
-    omega (arith, small)
-
-pub returns-then-held_as-ne0 : goal.returns-then-held_as-ne0
-returns-then-held_as-ne0 c =
-    let h : c.loop-i.i < length c.args.all = omega arith in
-    rw (c.loop-i.invariant.2, held_step _ _ _ _ _ h c.masked_as-held_as.ensures, ne_eqb _ _ c.if-held_as-ne0.true)
-
-pub overflow_add-i : goal.overflow_add-i
-overflow_add-i c = omega arith
-
-pub loop-i-smaller : goal.loop-i-smaller
-loop-i-smaller c = omega arith
+    sym (c.loop-i.invariant ∙ found a.condition a.all.now c.loop-i.i c.loop-i.m c.in-Some.held_as (omega arith) (sym c.in-Some.is ∙ c.masked_as.ensures))
 
 pub loop-i-preserved : goal.loop-i-preserved
 loop-i-preserved c =
-    let h : c.loop-i.i < length c.args.all = omega arith in
-    (omega arith, c.loop-i.invariant.1, rw (c.loop-i.invariant.2, held_step _ _ _ _ _ h c.masked_as-held_as.ensures, eq-eqb _ _ c.if-held_as-ne0.false))
+    let a = c.args in
+    c.loop-i.invariant ∙ passed a.condition a.all.now c.loop-i.i c.loop-i.m (omega arith) (sym c.in_default.is ∙ c.masked_as.ensures)
 
 pub returns : goal.returns
 returns c =
-    let h : length c.args.all ≤ c.loop-i.i = omega arith in
-    rw (c.loop-i.invariant.2, held_end _ _ _ _ h c.loop-i.invariant.0)
+    let a = c.args in
+    sym (c.loop-i.invariant ∙ held_end a.condition a.all.now c.loop-i.i c.loop-i.m (omega arith) (omega arith))

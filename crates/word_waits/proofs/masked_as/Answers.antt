@@ -1,8 +1,0 @@
-use borrow.Author.Tests.{eq-eqb, ne_eqb}
-use Rattle.word_waits.proofs.masked_as.Goals as goal
-
-pub returns-then-m-eq1 : goal.returns-then-m-eq1
-returns-then-m-eq1 c = rw (eq-eqb _ _ c.if-m-eq1.true) c.meets_as.ensures
-
-pub returns-else-m-eq1 : goal.returns-else-m-eq1
-returns-else-m-eq1 c = rw (ne_eqb _ _ c.if-m-eq1.false)
