@@ -14,12 +14,7 @@ fn byte_unit(k: u8) -> u32
     requires { k < 4 }
     ensures { result ≡ 256 ^ k }
 {
-    match k {
-        0 => 1,
-        1 => 256,
-        2 => 65536,
-        _ => 16777216,
-    }
+    1 << (8 * k)
 }
 
 // A word with byte k merged. Internal: it has four bytes.

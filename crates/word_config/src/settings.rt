@@ -1,24 +1,15 @@
 // The thread settings: ThreadConfig.
-ghost use Rattle.std.specs.Prelude.{◌≡◌, ◌<◌, length};
-ghost use Rattle.machine.specs.Sizes.{setting_count, thread_count, thread_settings};
-ghost use Rattle.word_rules.specs.ConfigWords.{bank_of, after_set_c16};
+ghost use Rattle.std.specs.Prelude.{◌≡◌};
+ghost use Rattle.word_rules.specs.ConfigWords.{bank_of};
 
+use bits::word::field;
 use machine::places::setting_place;
+use machine::sizes::SETTINGS;
+use machine::units::ThreadNumber;
 
-// A thread's Config bank. Internal: the store has its size, and the thread is in range.
-pub fn bank_of(settings: &[u16], t: usize) -> usize
-    requires { (length settings.now ≡ setting_count) × (t < thread_count) }
+// A thread's Config bank.
+pub fn bank_of(settings: &[u16; SETTINGS], t: ThreadNumber) -> usize
     ensures { result ≡ bank_of settings.now t }
 {
-    let entry = settings[setting_place(t, 0)];
-    (entry % 2) as usize
-}
-
-// SETC16. Internal: the store has its size, and the numbers are in range.
-pub(crate) fn set_setting(settings: &mut [u16], t: usize, entry: u8, value: u16)
-    requires { (length settings.old ≡ setting_count) × (t < thread_count) × (entry < thread_settings) }
-    ensures { settings.new ≡ after_set_c16 t entry value settings.old }
-{
-    let place = setting_place(t, entry as usize);
-    settings[place] = value;
+    field::<0, 1>(settings[setting_place(t, 0)] as u32) as usize
 }

@@ -1,13 +1,14 @@
 -- What an offered word comes to and what it leaves, in the pieces that the functions of the code are lent. It serves their contracts alone:
 -- the rules are `decode_of`, `gate_of`, `control_after`, `settings_after` and `stores_after`, which `offer_of` of step_rules puts together.
-use Rattle.std.specs.Prelude.{ℕ, ◌≡◌, Bool, true, false, cond, ◌&&◌, not, List, eqb, Option, Some, None}
+use Rattle.std.specs.Prelude.{ℕ, ◌≡◌, Bool, true, false, cond, ◌&&◌, ◌||◌, not, List, eqb, Option, Some, None}
 use Rattle.machine.specs.declared.control.Wait.{Wait}
 use Rattle.machine.specs.declared.control.Wait.TheVariants.{Clear, OnStall, OnSemaphore}
 use Rattle.machine.specs.declared.control.Semaphore.{Semaphore}
 use Rattle.machine.specs.declared.control.Control.{Control}
 use Rattle.machine.specs.Control.{with_wait}
 use Rattle.machine.specs.Machine.{Stores, with_gprs, with_config}
-use Rattle.machine.specs.Answers.{Told, accepted, refused}
+use Rattle.machine.specs.declared.refusal.Outcome.{Outcome}
+use Rattle.machine.specs.Answers.{Told, accepted, refused, provided}
 use Rattle.machine.specs.Outcomes.{Progress, idle, passed, stalled, has_passed, told_outcome}
 use Rattle.word_rules.specs.declared.instruction.Instruction.{Instruction}
 use Rattle.word_rules.specs.declared.instruction.Instruction.TheVariants.{Nop, Cell, Bank, Scalar, Sync, Config}
@@ -43,6 +44,13 @@ wait_first stalls gate = cond stalls (Closed 101 0) gate
 -- what comes of a word that nothing but its thread's wait can stall
 abbrev pub wait_outcome : Bool → Told Instruction → Told Progress
 wait_outcome stalls d = outcome_of (λ i. wait_first stalls Open) d
+
+-- what the code answers of a word that is held up, where it or a field of it is not fine or its wait stalls it; none where it goes on
+abbrev pub HeldUp : Bool → Bool → Bool → Option Outcome → Type 0
+HeldUp fine-word fine-field stalls None = (fine-word ≡ true) × (fine-field ≡ true) × (stalls ≡ false)
+HeldUp fine-word fine-field stalls (Some o) =
+    ((not fine-word || (not fine-field || stalls)) ≡ true)
+    × ((i : Instruction) → told_outcome o ≡ wait_outcome stalls (provided fine-word 2 (provided fine-field 3 (accepted i))))
 
 -- the cause of 101 put in
 abbrev pub with_cause : ℕ → Told Progress → Told Progress

@@ -1,10 +1,7 @@
-// What an offered word comes to: refused by itself, stalled by its thread's wait, or passed.
-ghost use Rattle.std.specs.Prelude.{◌≡◌, ◌<◌, not, ◌||◌};
+// What comes of an offered word before its work: it is refused by itself, stalled by its thread's wait, or goes on.
+ghost use Rattle.std.specs.Prelude.{◌≡◌, ◌<◌};
 ghost use Rattle.bits.specs.Field.{flag};
-ghost use Rattle.machine.specs.Answers.{accepted, provided};
-ghost use Rattle.machine.specs.Outcomes.{told_outcome};
-ghost use Rattle.word_rules.specs.declared.instruction.Instruction.{Instruction};
-ghost use Rattle.word_rules.specs.Offered.{wait_outcome};
+ghost use Rattle.word_rules.specs.Offered.{HeldUp};
 
 use bits::word;
 use machine::refusal::{Outcome, Refusal, StallCause};
@@ -18,26 +15,20 @@ pub fn stalls<const BIT: u32>(blocks: u16) -> bool
     word::flag::<BIT>(blocks as u32)
 }
 
-// Whether a word goes no further: it or a field of it is not fine, or its thread's wait stalls it.
-pub fn stopped(fine_word: bool, fine_field: bool, stalls: bool) -> bool
-    ensures { result ≡ (not fine_word || (not fine_field || stalls)) }
-{
-    !fine_word || !fine_field || stalls
-}
-
-// What comes of a word that nothing but its thread's wait can stall: 2, 3, then 101, else it passes. The cause of 101 is not known here:
-// `step_offer` puts it in.
-pub fn verdict(fine_word: bool, fine_field: bool, stalls: bool) -> Outcome
-    ensures { (i : Instruction) → told_outcome result ≡ wait_outcome stalls (provided fine_word 2 (provided fine_field 3 (accepted i))) }
+// What comes of a word with block bit BIT that is held up: 2 where it is not fine, 3 where a field of it is not fine, then 101 where its
+// thread's wait stalls it. None: it goes on. The cause of 101 is not known here: `step_offer` puts it in. Internal, as above.
+pub fn held_up<const BIT: u32>(fine_word: bool, fine_field: bool, blocks: u16) -> Option<Outcome>
+    requires { BIT < 16 }
+    ensures { HeldUp fine_word fine_field (flag BIT blocks) result }
 {
     if !fine_word {
-        return Outcome::Refused(Refusal::BadWord);
+        return Some(Outcome::Refused(Refusal::BadWord));
     }
     if !fine_field {
-        return Outcome::Refused(Refusal::BadField);
+        return Some(Outcome::Refused(Refusal::BadField));
     }
-    if stalls {
-        return Outcome::Stalled(StallCause::WaitHolds(0));
+    if stalls::<BIT>(blocks) {
+        return Some(Outcome::Stalled(StallCause::WaitHolds(0)));
     }
-    Outcome::Passed
+    None
 }

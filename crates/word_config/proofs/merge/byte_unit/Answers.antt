@@ -1,15 +1,12 @@
-use mathlib.Core.Path.{◌≡◌}
-use native.Mathlib.Omega.{arith}
+use Rattle.std.proofs.Common.{ℕ, zero, suc, ◌*◌, ◌%◌, ◌^◌, ◌<◌, ◌≡◌, refl, arith}
 use Rattle.word_config.proofs.merge.byte_unit.Goals as goal
 
-pub returns-in-0 : goal.returns-in-0
-returns-in-0 c = rw c.in-0.is
+shifted : (k : ℕ) → k < 4 → 1 * 2 ^ (8 * k) % 4294967296 ≡ 256 ^ k
+shifted zero h = refl
+shifted (suc zero) h = refl
+shifted (suc (suc zero)) h = refl
+shifted (suc (suc (suc zero))) h = refl
+shifted (suc (suc (suc (suc k)))) h = absurd (omega arith)
 
-pub returns-in-1 : goal.returns-in-1
-returns-in-1 c = rw c.in-1.is
-
-pub returns-in-2 : goal.returns-in-2
-returns-in-2 c = rw c.in-2.is
-
-pub returns-in_default : goal.returns-in_default
-returns-in_default c = let e : c.args.k ≡ 3 = omega (arith, c.in_default.in_default-own.rest) in rw e
+pub returns : goal.returns
+returns c = shifted _ c.requires
