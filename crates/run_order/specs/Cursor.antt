@@ -1,10 +1,9 @@
 -- The three streams of words, what a cursor finds in them, and how a turn moves it.
-use Rattle.std.specs.Prelude.{ℕ, ◌+◌, cond, Bool, ◌&&◌, ltb, eqb, leb, List, length, get_or}
+use Rattle.std.specs.Prelude.{ℕ, ◌+◌, cond, Bool, ◌&&◌, ltb, eqb, leb, List, length, get_or, Option, Some, None}
 use Rattle.machine.specs.Answers.{Told, accepted, refused}
 use Rattle.machine.specs.Outcomes.{Progress, idle, passed, stalled}
 use Rattle.run_order.specs.declared.cursor.Cursor.{Cursor}
-use Rattle.run_order.specs.declared.cursor.Offered.{Offered}
-use Rattle.run_order.specs.declared.cursor.Offered.TheVariants.{NextWord, NoWord}
+use Rattle.run_order.specs.declared.cursor.StreamsView.{StreamsView}
 
 abbrev pub cursor : ℕ → ℕ → ℕ → ℕ → Cursor
 cursor at0 at1 at2 next = record { at0 = at0; at1 = at1; at2 = at2; next = next }
@@ -18,12 +17,16 @@ pub record Streams : Type 0 where
 abbrev pub streams : List ℕ → List ℕ → List ℕ → Streams
 streams s0 s1 s2 = record { s0 = s0; s1 = s1; s2 = s2 }
 
+-- those that are lent to be read
+abbrev pub streams_in : StreamsView → Streams
+streams_in v = streams v.s0.now v.s1.now v.s2.now
+
 -- the word at a position, unless the stream is used up there
-unfoldable pub word_at : List ℕ → ℕ → Offered
-word_at s i = cond (ltb i (length s)) (NextWord (get_or s i 0)) NoWord
+unfoldable pub word_at : List ℕ → ℕ → Option ℕ
+word_at s i = cond (ltb i (length s)) (Some (get_or s i 0)) None
 
 -- the next thread's word
-unfoldable pub next_word : Streams → Cursor → Offered
+unfoldable pub next_word : Streams → Cursor → Option ℕ
 next_word s c =
     cond (eqb c.next 0) (word_at s.s0 c.at0)
     (cond (eqb c.next 1) (word_at s.s1 c.at1)

@@ -1,13 +1,11 @@
 -- How a run ends: before a turn, or by a refused word.
-use Rattle.std.specs.Prelude.{ℕ, ◌+◌, cond, List, leb, eqb}
+use Rattle.std.specs.Prelude.{ℕ, ◌+◌, cond, List, leb, eqb, Option, Some, None}
 use Rattle.machine.specs.Numbers.{number_of, values_of}
 use Rattle.machine.specs.Answers.{Told, accepted, refused, refusal}
 use Rattle.machine.specs.Outcomes.{Progress, idle, passed, stalled}
 use Rattle.run_order.specs.declared.cursor.Cursor.{Cursor}
 use Rattle.run_order.specs.declared.ending.Ending.{Ending}
 use Rattle.run_order.specs.declared.ending.Ending.TheVariants.{Finished, Stuck, BudgetUsed, WordRefused, CallRefused}
-use Rattle.run_order.specs.declared.ending.Halt.{Halt}
-use Rattle.run_order.specs.declared.ending.Halt.TheVariants.{Ends, GoesOn}
 use Rattle.run_order.specs.Cursor.{Streams, used_up}
 
 -- document 01's *finished*, *stuck*, *budget* and *refused*, the last with the word's number and values
@@ -30,9 +28,9 @@ pub data Halted : Type 0 where
   halts : Told RunEnd → Halted
   goes_on : Halted
 
-abbrev pub told_halt : Halt → Halted
-told_halt (Ends a) = halts (told_ending a)
-told_halt GoesOn = goes_on
+abbrev pub told_halt : Option Ending → Halted
+told_halt (Some a) = halts (told_ending a)
+told_halt None = goes_on
 
 -- before each turn, first that applies: all streams used up; three turns in a row without a passed word; budget used
 unfoldable pub halt_of : Streams → Cursor → ℕ → ℕ → Halted

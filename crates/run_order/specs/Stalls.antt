@@ -1,13 +1,10 @@
 -- Each thread's last stall in a run: "none at a run's start and cleared when that thread passes" (document 02, K3).
-use Rattle.std.specs.Prelude.{ℕ, cond, eqb}
+use Rattle.std.specs.Prelude.{ℕ, cond, eqb, Option, Some, None}
 use Rattle.machine.specs.Numbers.{stall_number_of, stall_cause_of}
 use Rattle.machine.specs.Answers.{Told, accepted, refused}
 use Rattle.machine.specs.Outcomes.{Progress, idle, passed, stalled}
-use Rattle.run_order.specs.declared.stalls.LastStall.{LastStall}
-use Rattle.run_order.specs.declared.stalls.LastStall.TheVariants.{Unstalled, StalledBy}
+use Rattle.machine.specs.declared.refusal.StallCause.{StallCause}
 use Rattle.run_order.specs.declared.stalls.LastStalls.{LastStalls}
-use Rattle.run_order.specs.declared.stalls.StallPair.{StallPair}
-use Rattle.run_order.specs.declared.stalls.StallPairs.{StallPairs}
 
 -- none, or its number and cause
 pub data Stall : Type 0 where
@@ -23,23 +20,12 @@ pub record Stalls : Type 0 where
 abbrev pub stalls : Stall → Stall → Stall → Stalls
 stalls a b c = record { t0 = a; t1 = b; t2 = c }
 
-abbrev pub told_stall : LastStall → Stall
-told_stall Unstalled = unstalled
-told_stall (StalledBy cause) = stalled_by (stall_number_of cause) (stall_cause_of cause)
+abbrev pub told_stall : Option StallCause → Stall
+told_stall None = unstalled
+told_stall (Some cause) = stalled_by (stall_number_of cause) (stall_cause_of cause)
 
 abbrev pub told_stalls : LastStalls → Stalls
 told_stalls l = stalls (told_stall l.t0) (told_stall l.t1) (told_stall l.t2)
-
--- the same from the numbers that a run keeps
-abbrev pub told_pair : StallPair → Stall
-told_pair p =
-    cond (eqb p.number 101) (stalled_by 101 p.cause)
-    (cond (eqb p.number 102) (stalled_by 102 p.cause)
-    (cond (eqb p.number 103) (stalled_by 103 p.cause)
-    unstalled))
-
-abbrev pub told_pairs : StallPairs → Stalls
-told_pairs l = stalls (told_pair l.t0) (told_pair l.t1) (told_pair l.t2)
 
 abbrev pub no_stalls : Stalls
 no_stalls = stalls unstalled unstalled unstalled

@@ -2,12 +2,12 @@
 ghost use Rattle.std.specs.Prelude.{◌≡◌, ◌≤◌};
 ghost use Rattle.machine.specs.Sizes.{stream_most};
 ghost use Rattle.machine.specs.Outcomes.{told_outcome};
-ghost use Rattle.run_order.specs.Cursor.{following, onward_of, past_of, moved_of, streams, word_at, next_word, used_up};
+ghost use Rattle.run_order.specs.Cursor.{following, onward_of, past_of, moved_of, streams_in, word_at, next_word, used_up};
 
 use machine::refusal::Outcome;
 
 // A position in each stream, and the thread whose turn is next.
-#[derive(Clone, Copy)]
+#[derive(Clone, Copy, Debug, PartialEq, Eq)]
 pub struct Cursor {
     pub at0: usize,
     pub at1: usize,
@@ -15,106 +15,89 @@ pub struct Cursor {
     pub next: u32,
 }
 
-// What a stream has at a position.
+// The words of threads 0, 1 and 2, lent to be read.
 #[derive(Clone, Copy)]
-pub enum Offered {
-    NextWord(u32),
-    NoWord,
+pub struct StreamsView<'a> {
+    pub s0: &'a [u32],
+    pub s1: &'a [u32],
+    pub s2: &'a [u32],
 }
 
-fn word_at(s: &[u32], at: usize) -> Offered
+// The word at a position, unless the stream is used up there.
+#[tactic(auto, unfolding(crate::specs::Cursor::word_at))]
+fn word_at(s: &[u32], at: usize) -> Option<u32>
     ensures { result ≡ word_at s.now at }
 {
-    if at < s.len() {
-        Offered::NextWord(s[at])
-    } else {
-        Offered::NoWord
-    }
+    if at < s.len() { Some(s[at]) } else { None }
 }
 
-// The next thread's word.
-pub fn next_word(s0: &[u32], s1: &[u32], s2: &[u32], c: Cursor) -> Offered
-    ensures { result ≡ next_word (streams s0.now s1.now s2.now) c }
-{
-    let t = c.next;
-    if t == 0 {
-        return word_at(s0, c.at0);
+impl StreamsView<'_> {
+    // The next thread's word.
+    #[tactic(auto, unfolding(crate::specs::Cursor::next_word))]
+    pub fn next_word(self, c: Cursor) -> Option<u32>
+        ensures { result ≡ next_word (streams_in self.entry) c }
+    {
+        match c.next {
+            0 => word_at(self.s0, c.at0),
+            1 => word_at(self.s1, c.at1),
+            _ => word_at(self.s2, c.at2),
+        }
     }
-    if t == 1 {
-        return word_at(s1, c.at1);
-    }
-    word_at(s2, c.at2)
-}
 
-// Whether all streams are used up.
-pub(crate) fn used_up(s0: &[u32], s1: &[u32], s2: &[u32], c: Cursor) -> bool
-    ensures { result ≡ used_up (streams s0.now s1.now s2.now) c }
-{
-    let u0 = s0.len() <= c.at0;
-    let u1 = s1.len() <= c.at1;
-    let u2 = s2.len() <= c.at2;
-    bits::both(u0, bits::both(u1, u2))
+    // Whether all streams are used up.
+    #[tactic(auto, unfolding(crate::specs::Cursor::used_up))]
+    pub(crate) fn used_up(self, c: Cursor) -> bool
+        ensures { result ≡ used_up (streams_in self.entry) c }
+    {
+        self.s0.len() <= c.at0 && self.s1.len() <= c.at1 && self.s2.len() <= c.at2
+    }
 }
 
 // The following thread, 0 after 2.
+#[tactic(auto, unfolding(crate::specs::Cursor::following))]
 fn following_thread(t: u32) -> u32
     ensures { result ≡ following t }
 {
     if t < 2 { t + 1 } else { 0 }
 }
 
-// The turn goes on to the following thread, and every position is kept.
-pub fn onward(c: Cursor) -> Cursor
-    ensures { result ≡ onward_of c }
-{
-    Cursor {
-        at0: c.at0,
-        at1: c.at1,
-        at2: c.at2,
-        next: following_thread(c.next),
+impl Cursor {
+    // The turn goes on to the following thread, and every position is kept.
+    #[tactic(auto, unfolding(crate::specs::Cursor::onward_of))]
+    pub fn onward(self) -> Self
+        ensures { result ≡ onward_of self }
+    {
+        Cursor {
+            next: following_thread(self.next),
+            ..self
+        }
     }
-}
 
-// The same, past the word of the thread whose turn it was. Internal: each position is within a stream.
-fn past(c: Cursor) -> Cursor
-    requires { (c.at0 ≤ stream_most) × (c.at1 ≤ stream_most) × (c.at2 ≤ stream_most) }
-    ensures { result ≡ past_of c }
-{
-    let t = c.next;
-    let n = following_thread(t);
-    if t == 0 {
-        return Cursor {
-            at0: c.at0 + 1,
-            at1: c.at1,
-            at2: c.at2,
-            next: n,
-        };
+    // The same, past the word of the thread whose turn it was. Internal: each position is within a stream.
+    #[tactic(auto, unfolding(crate::specs::Cursor::past_of, crate::specs::Cursor::onward_of))]
+    fn past(self) -> Self
+        requires { (self.at0 ≤ stream_most) × (self.at1 ≤ stream_most) × (self.at2 ≤ stream_most) }
+        ensures { result ≡ past_of self }
+    {
+        let mut d = self.onward();
+        match self.next {
+            0 => d.at0 += 1,
+            1 => d.at1 += 1,
+            _ => d.at2 += 1,
+        }
+        d
     }
-    if t == 1 {
-        return Cursor {
-            at0: c.at0,
-            at1: c.at1 + 1,
-            at2: c.at2,
-            next: n,
-        };
-    }
-    Cursor {
-        at0: c.at0,
-        at1: c.at1,
-        at2: c.at2 + 1,
-        next: n,
-    }
-}
 
-// The cursor after a turn with this outcome. Internal: each position is within a stream.
-pub fn moved(o: Outcome, c: Cursor) -> Cursor
-    requires { (c.at0 ≤ stream_most) × (c.at1 ≤ stream_most) × (c.at2 ≤ stream_most) }
-    ensures { result ≡ moved_of (told_outcome o) c }
-{
-    match o {
-        Outcome::Idle => onward(c),
-        Outcome::Passed => past(c),
-        Outcome::Stalled(_) => onward(c),
-        Outcome::Refused(_) => c,
+    // After a turn with this outcome. Internal: each position is within a stream.
+    #[tactic(auto, unfolding(crate::specs::Cursor::moved_of))]
+    pub fn moved(self, o: Outcome) -> Self
+        requires { (self.at0 ≤ stream_most) × (self.at1 ≤ stream_most) × (self.at2 ≤ stream_most) }
+        ensures { result ≡ moved_of (told_outcome o) self }
+    {
+        match o {
+            Outcome::Passed => self.past(),
+            Outcome::Idle | Outcome::Stalled(_) => self.onward(),
+            Outcome::Refused(_) => self,
+        }
     }
 }

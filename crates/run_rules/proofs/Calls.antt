@@ -11,8 +11,7 @@ use Rattle.machine.specs.declared.refusal.Refusal.{Refusal}
 use Rattle.machine.specs.Sizes.{stream_most, budget_most}
 use Rattle.machine.specs.Machine.{Machine}
 use Rattle.machine.specs.Formed.{sized, formed}
-use Rattle.machine.specs.declared.access.Access.{Access}
-use Rattle.machine.specs.declared.access.Access.TheVariants.{Granted, Refused}
+use Rattle.std.specs.Prelude.{Result, Ok, Err}
 use Rattle.machine.specs.Answers.{Told, accepted, refusal, told, provided}
 use Rattle.run_order.specs.declared.cursor.Cursor.{Cursor}
 use Rattle.run_order.specs.Cursor.{Streams}
@@ -21,14 +20,14 @@ use Rattle.run_rules.specs.Checks.{streams_sized, placed, call_check, call_halt}
 use Rattle.run_rules.specs.Ready.{Lengths, Within, Ready}
 use Rattle.run_rules.specs.Run.{stop, run_from, run_of}
 
-module _ (s : Streams) (m : Machine) (c : Cursor) (budget : ℕ) (k : Access) (ek : told k ≡ call_check s m c budget) where
-  pub call_refused_lem : (r : Refusal) → k ≡ Refused r → stop (refusal r) m c ≡ run_of s m c budget
+module _ (s : Streams) (m : Machine) (c : Cursor) (budget : ℕ) (k : Result (Unit {0}) Refusal) (ek : told k ≡ call_check s m c budget) where
+  pub call_refused_lem : (r : Refusal) → k ≡ Err r → stop (refusal r) m c ≡ run_of s m c budget
   unfolding run_of
   call_refused_lem r e = rw (← ek, e)
 
-  pub call_runs : k ≡ Granted → run_from budget s 0 m c ≡ run_of s m c budget
+  pub call_runs : (u : Unit {0}) → k ≡ Ok u → run_from budget s 0 m c ≡ run_of s m c budget
   unfolding run_of
-  call_runs e = rw (← ek, e)
+  call_runs u e = rw (← ek, e)
 
 lengths_of : (s : Streams) → streams_sized s ≡ true → Lengths s
 unfolding streams_sized
@@ -97,8 +96,8 @@ call_checked s m c budget e =
       few = leb-true budget budget_most e6.0;
     }
 
-pub granted_ready : (s : Streams) (m : Machine) (c : Cursor) (budget : ℕ) (k : Access) → told k ≡ call_check s m c budget → k ≡ Granted → Ready s m c
-granted_ready s m c budget k e h = (call_checked s m c budget (rw (← e, h))).ready
+pub granted_ready : (s : Streams) (m : Machine) (c : Cursor) (budget : ℕ) (k : Result (Unit {0}) Refusal) (u : Unit {0}) → told k ≡ call_check s m c budget → k ≡ Ok u → Ready s m c
+granted_ready s m c budget k u e h = (call_checked s m c budget (rw (← e, h))).ready
 
 -- a call that is ready, with a budget within its limit, is not refused
 pub ready_call : (s : Streams) (m : Machine) (c : Cursor) (budget : ℕ) → Ready s m c → budget ≤ budget_most → call_check s m c budget ≡ accepted tt

@@ -16,8 +16,7 @@ use Rattle.machine.specs.Outcomes.{Progress, idle, passed, stalled, has_passed}
 use Rattle.word_rules.proofs.Saying.{TwoOrThree}
 use Rattle.step_rules.proofs.Refusing.{offer_refuses}
 use Rattle.run_order.specs.declared.cursor.Cursor.{Cursor}
-use Rattle.run_order.specs.declared.cursor.Offered.{Offered}
-use Rattle.run_order.specs.declared.cursor.Offered.TheVariants.{NextWord, NoWord}
+use Rattle.std.specs.Prelude.{Option, Some, None}
 use Rattle.run_order.specs.Cursor.{moved_of, Streams, used_up, next_word}
 use Rattle.run_order.specs.Ending.{RunEnd, finished, stuck, budget_used, word_refused, Halted, halts, goes_on, halt_of, refused_word, quiet_after}
 use Rattle.run_rules.specs.Run.{Turn, by_word, turn_of, Run, stop, before, unless, run_from, run_of}
@@ -31,9 +30,9 @@ turn_refuses : (s : Streams) (m : Machine) (c : Cursor) → TwoOrThree (turn_of 
 unfolding turn_of
 turn_refuses s m c = go (next_word s c)
   where
-    go : (o : Offered) → TwoOrThree (by_word m c o).outcome
-    go NoWord = tt
-    go (NextWord w) = offer_refuses m c.next w
+    go : (o : Option ℕ) → TwoOrThree (by_word m c o).outcome
+    go None = tt
+    go (Some w) = offer_refuses m c.next w
 
 module _ (s : Streams) (m : Machine) (c : Cursor) (n : ℕ) (vs : List ℕ) (e : (turn_of s m c).outcome ≡ refused n vs) where
   abbrev t : Turn

@@ -11,8 +11,7 @@ use Rattle.machine.specs.Outcomes.{Progress}
 use Rattle.machine.proofs.StoreFacts.{SizedFacts}
 use Rattle.run_order.specs.declared.cursor.Cursor.{Cursor}
 use Rattle.run_order.specs.declared.ending.Ending.{Ending}
-use Rattle.run_order.specs.declared.ending.Halt.{Halt}
-use Rattle.run_order.specs.declared.ending.Halt.TheVariants.{Ends, GoesOn}
+use Rattle.std.specs.Prelude.{Option, Some, None}
 use Rattle.run_order.specs.Cursor.{Streams}
 use Rattle.run_rules.specs.Run.{Turn, turned, turn_of, Run, before, run_from, Summary, summary, summary_from, summary_of}
 use Rattle.run_order.specs.Stalls.{Stalls, no_stalls, stalls_after}
@@ -49,12 +48,12 @@ going_start s budget m c r l e =
 one_less : (budget turns : ℕ) → 0 < budget - turns → budget - turns ≡ suc (budget - (turns + 1))
 one_less budget turns h = omega arith
 
-module _ (s : Streams) (budget : ℕ) (m₀ : List ℕ → Machine) (c₀ : Cursor) (m : List ℕ → Machine) (c : Cursor) (quiet turns : ℕ) (l : Stalls) (g : Going s budget m₀ c₀ m c quiet turns l) (h : Halt) (eh : told_halt h ≡ halt_of s c quiet (budget - turns)) where
-  pub going_ends : (a : Ending) → h ≡ Ends a → (d : List ℕ) → summary (told_ending a) turns (m d) c l ≡ summary_of c₀ (run_from budget s 0 (m₀ d) c₀)
+module _ (s : Streams) (budget : ℕ) (m₀ : List ℕ → Machine) (c₀ : Cursor) (m : List ℕ → Machine) (c : Cursor) (quiet turns : ℕ) (l : Stalls) (g : Going s budget m₀ c₀ m c quiet turns l) (h : Option Ending) (eh : told_halt h ≡ halt_of s c quiet (budget - turns)) where
+  pub going_ends : (a : Ending) → h ≡ Some a → (d : List ℕ) → summary (told_ending a) turns (m d) c l ≡ summary_of c₀ (run_from budget s 0 (m₀ d) c₀)
   going_ends a e d = rw (g.whole d, run_halts s quiet (m d) c (budget - turns) (told_ending a) (sym eh ∙ ap told_halt e), add-zero)
 
   -- a turn, alike whatever cells Dest has
-  module _ (on : h ≡ GoesOn) (o : Told Progress) (m' : List ℕ → Machine) (c' : Cursor) (et : (d : List ℕ) → turned o (m' d) c' ≡ turn_of s (m d) c) (k : Stalls) (ek : k ≡ stalls_after o c.next l) (f : Halt) (ef : told_halt f ≡ refused_word o) where
+  module _ (on : h ≡ None) (o : Told Progress) (m' : List ℕ → Machine) (c' : Cursor) (et : (d : List ℕ) → turned o (m' d) c' ≡ turn_of s (m d) c) (k : Stalls) (ek : k ≡ stalls_after o c.next l) (f : Option Ending) (ef : told_halt f ≡ refused_word o) where
     some : 0 < budget - turns
     some = (due_after s c quiet (budget - turns) h eh on).some
 
@@ -64,11 +63,11 @@ module _ (s : Streams) (budget : ℕ) (m₀ : List ℕ → Machine) (c₀ : Curs
     word_halt : (d : List ℕ) → refused_word (turn_of s (m d) c).outcome ≡ told_halt f
     word_halt d = ap (λ (x : Turn). refused_word x.outcome) (sym (et d)) ∙ sym ef
 
-    pub going_refused : (a : Ending) → f ≡ Ends a → (d : List ℕ) → summary (told_ending a) (turns + 1) (m' d) c' k ≡ summary_of c₀ (run_from budget s 0 (m₀ d) c₀)
+    pub going_refused : (a : Ending) → f ≡ Some a → (d : List ℕ) → summary (told_ending a) (turns + 1) (m' d) c' k ≡ summary_of c₀ (run_from budget s 0 (m₀ d) c₀)
     going_refused a e d =
         rw (g.whole d, one_less budget turns some, run_refused s quiet (m d) c (budget - (turns + 1)) due (told_ending a) (word_halt d ∙ ap told_halt e), ← et d, ek)
 
-    pub going_on : f ≡ GoesOn → (q : ℕ) → q ≡ quiet_after o quiet → Going s budget m₀ c₀ m' c' q (turns + 1) k
+    pub going_on : f ≡ None → (q : ℕ) → q ≡ quiet_after o quiet → Going s budget m₀ c₀ m' c' q (turns + 1) k
     going_on e q eq =
         let x = g.cells in
         let r : Ready s (m' x) c' = subst (λ (t : Turn). Ready s t.after t.cursor) (sym (et x)) (turn_ready s (m x) c g.ready) in

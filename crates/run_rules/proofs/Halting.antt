@@ -8,8 +8,8 @@ use borrow.Author.Tests.{leb-false, eqb-false}
 use Rattle.machine.specs.Machine.{Machine}
 use Rattle.machine.specs.Answers.{Told, accepted}
 use Rattle.run_order.specs.declared.cursor.Cursor.{Cursor}
-use Rattle.run_order.specs.declared.ending.Halt.{Halt}
-use Rattle.run_order.specs.declared.ending.Halt.TheVariants.{GoesOn}
+use Rattle.std.specs.Prelude.{Option, None}
+use Rattle.run_order.specs.declared.ending.Ending.{Ending}
 use Rattle.run_order.specs.Cursor.{Streams, used_up}
 use Rattle.run_order.specs.Ending.{halt_of, refused_word, quiet_after, RunEnd, halts, goes_on, finished, stuck, budget_used, told_halt}
 use Rattle.run_rules.specs.Run.{turn_of, stop, before, run_from}
@@ -32,7 +32,7 @@ turn_due s c quiet left e = go (used_up s c) (leb 3 quiet) (eqb left 0) refl ref
     go false false false ex ey ez h = record { words = ex; few = leb-false 3 quiet ey; some = omega (arith, eqb-false left 0 ez) }
 
 -- the same from the code's answer
-pub due_after : (s : Streams) (c : Cursor) (quiet left : ℕ) (h : Halt) → told_halt h ≡ halt_of s c quiet left → h ≡ GoesOn → TurnDue s c quiet left
+pub due_after : (s : Streams) (c : Cursor) (quiet left : ℕ) (h : Option Ending) → told_halt h ≡ halt_of s c quiet left → h ≡ None → TurnDue s c quiet left
 due_after s c quiet left h e on = turn_due s c quiet left (sym e ∙ ap told_halt on)
 
 module _ (s : Streams) (quiet : ℕ) (m : Machine) (c : Cursor) where

@@ -11,8 +11,7 @@ use Rattle.machine.specs.Outcomes.{Progress}
 use Rattle.step_rules.specs.Alike.{Agree}
 use Rattle.step_rules.proofs.Alike.{offers_alike}
 use Rattle.run_order.specs.declared.cursor.Cursor.{Cursor}
-use Rattle.run_order.specs.declared.cursor.Offered.{Offered}
-use Rattle.run_order.specs.declared.cursor.Offered.TheVariants.{NextWord, NoWord}
+use Rattle.std.specs.Prelude.{Option, Some, None}
 use Rattle.run_order.specs.Cursor.{Streams, next_word, moved_of}
 use Rattle.run_order.specs.Stalls.{Stalls, no_stalls, stalls_after}
 use Rattle.run_order.specs.Ending.{halt_of, refused_word, quiet_after, RunEnd, Halted, halts, goes_on, budget_used}
@@ -24,9 +23,9 @@ turns_alike : (s : Streams) (c : Cursor) (m n : Machine) → Agree m n → Turns
 unfolding turn_of
 turns_alike s c m n a = go (next_word s c)
   where
-    go : (o : Offered) → TurnsAlike (by_word m c o) (by_word n c o)
-    go NoWord = record { outcome = refl; agree = a; cursor = refl }
-    go (NextWord w) =
+    go : (o : Option ℕ) → TurnsAlike (by_word m c o) (by_word n c o)
+    go None = record { outcome = refl; agree = a; cursor = refl }
+    go (Some w) =
         let x = offers_alike m n c.next w a in
         record {
           outcome = x.outcome;

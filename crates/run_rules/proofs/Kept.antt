@@ -10,8 +10,7 @@ use Rattle.machine.specs.Formed.{well_formed}
 use Rattle.machine.specs.Answers.{Told, accepted, refused}
 use Rattle.machine.specs.Outcomes.{Progress, idle, passed, stalled, has_passed}
 use Rattle.run_order.specs.declared.cursor.Cursor.{Cursor}
-use Rattle.run_order.specs.declared.cursor.Offered.{Offered}
-use Rattle.run_order.specs.declared.cursor.Offered.TheVariants.{NextWord, NoWord}
+use Rattle.std.specs.Prelude.{Option, Some, None}
 use Rattle.run_order.specs.Cursor.{Streams, used_up, next_word, onward_of, moved_of}
 use Rattle.run_order.specs.Ending.{halt_of, refused_word, quiet_after, RunEnd, Halted, halts, goes_on, finished, stuck, budget_used}
 use Rattle.run_rules.specs.Run.{by_word, turn_of, Run, stop, before, unless, run_from, run_of}
@@ -34,9 +33,9 @@ turn_positions : (s : Streams) (m : Machine) (c : Cursor) → has_passed (turn_o
 unfolding turn_of
 turn_positions s m c h = go (next_word s c) h
   where
-    go : (o : Offered) → has_passed (by_word m c o).outcome ≡ false → SamePositions (by_word m c o).cursor c
-    go NoWord e = moved_positions (accepted idle) c refl
-    go (NextWord w) e = moved_positions _ c e
+    go : (o : Option ℕ) → has_passed (by_word m c o).outcome ≡ false → SamePositions (by_word m c o).cursor c
+    go None e = moved_positions (accepted idle) c refl
+    go (Some w) e = moved_positions _ c e
 
 quiet_turn : (s : Streams) (m : Machine) (c : Cursor) → has_passed (turn_of s m c).outcome ≡ false → QuietTurn s m c
 quiet_turn s m c h = record { after = turn_keeps s m c h; positions = turn_positions s m c h }

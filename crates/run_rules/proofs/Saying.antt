@@ -12,8 +12,7 @@ use Rattle.word_rules.specs.Table.{decode_of}
 use Rattle.word_rules.specs.Waits.{Gate, Open, Closed, gate_of}
 use Rattle.step_rules.specs.Step.{by_gate, gated_of, by_decoded, offer_of}
 use Rattle.run_order.specs.declared.cursor.Cursor.{Cursor}
-use Rattle.run_order.specs.declared.cursor.Offered.{Offered}
-use Rattle.run_order.specs.declared.cursor.Offered.TheVariants.{NextWord, NoWord}
+use Rattle.std.specs.Prelude.{Option, Some, None}
 use Rattle.run_order.specs.Cursor.{Streams, cursor, next_word, following, onward_of, moved_of}
 use Rattle.run_order.specs.Ending.{refused_word, quiet_after, goes_on}
 use Rattle.run_order.specs.Stalls.{Stall, unstalled, stalled_by, Stalls, no_stalls, stall_of, with_stall, stalls_after}
@@ -66,9 +65,9 @@ pub says_waits : (s : Streams) (m : Machine) (c : Cursor) (x : Stall) → Says m
 unfolding turn_of
 says_waits s m c x = go (next_word s c)
   where
-    go : (o : Offered) → Says m c.next o x → waiting (by_word m c o).outcome ≡ true
-    go NoWord y = refl
-    go (NextWord w) y = rw y.offered
+    go : (o : Option ℕ) → Says m c.next o x → waiting (by_word m c o).outcome ≡ true
+    go None y = refl
+    go (Some w) y = rw y.offered
 
 -- ---- before each turn
 -- turns since thread t's last turn, where n is next
@@ -82,7 +81,7 @@ since_on = two_threads (λ n t. since (following n) t ≡ suc (since n t)) refl 
 -- after `quiet` turns in a row without a passed word
 pub record Said (s : Streams) (m : Machine) (c : Cursor) (l : Stalls) (quiet : ℕ) : Type 0 where
   -- a thread whose stream is used up has no last stall
-  clear : (t : ℕ) → t < 3 → word_of s c t ≡ NoWord → stall_of l t ≡ unstalled
+  clear : (t : ℕ) → t < 3 → word_of s c t ≡ None → stall_of l t ≡ unstalled
   -- the threads of these turns
   says : (t : ℕ) → t < 3 → since c.next t < quiet → Says m t (word_of s c t) (stall_of l t)
 
@@ -102,12 +101,12 @@ said_three s m c l quiet x k t h = x.says t h (omega (arith, since_few (eqb t c.
     since_few false true = omega arith
     since_few false false = omega arith
 
-idle_turn : (s : Streams) (m : Machine) (c : Cursor) → next_word s c ≡ NoWord → (turn_of s m c).outcome ≡ accepted idle
+idle_turn : (s : Streams) (m : Machine) (c : Cursor) → next_word s c ≡ None → (turn_of s m c).outcome ≡ accepted idle
 unfolding turn_of
 idle_turn s m c e = rw e
 
 module _ (s : Streams) (m : Machine) (c : Cursor) (l : Stalls) (quiet : ℕ) (h : c.next < 3) (x : Said s m c l quiet) where
-  clear_own : (o : Told Progress) → (turn_of s m c).outcome ≡ o → word_of s (moved_of o c) c.next ≡ NoWord → stall_of (stalls_after o c.next l) c.next ≡ unstalled
+  clear_own : (o : Told Progress) → (turn_of s m c).outcome ≡ o → word_of s (moved_of o c) c.next ≡ None → stall_of (stalls_after o c.next l) c.next ≡ unstalled
   unfolding moved_of onward_of stalls_after
   clear_own (accepted idle) e w = x.clear c.next h w
   clear_own (accepted passed) e w = stall_own l unstalled c.next h
@@ -116,10 +115,10 @@ module _ (s : Streams) (m : Machine) (c : Cursor) (l : Stalls) (quiet : ℕ) (h 
       let z : ◌≡◌ {A = ℕ} 0 1 = cc in absurd (omega arith)
   clear_own (refused n vs) e w = x.clear c.next h w
 
-  clear_turn : (o : Told Progress) → (turn_of s m c).outcome ≡ o → (t : ℕ) → t < 3 → word_of s (moved_of o c) t ≡ NoWord → stall_of (stalls_after o c.next l) t ≡ unstalled
+  clear_turn : (o : Told Progress) → (turn_of s m c).outcome ≡ o → (t : ℕ) → t < 3 → word_of s (moved_of o c) t ≡ None → stall_of (stalls_after o c.next l) t ≡ unstalled
   clear_turn o e t k =
       let f = moved_of o c in
-      own_or_other (λ u. word_of s f u ≡ NoWord → stall_of (stalls_after o c.next l) u ≡ unstalled) c.next t (clear_own o e)
+      own_or_other (λ u. word_of s f u ≡ None → stall_of (stalls_after o c.next l) u ≡ unstalled) c.next t (clear_own o e)
       (λ d w.
       let same = same_word s (cursor c.at0 c.at1 c.at2 t) (cursor f.at0 f.at1 f.at2 t) refl ((moves o c h).others t k d) in
       after_other o l c.next t h k d ∙ x.clear t k (sym same.word ∙ w))
@@ -128,10 +127,10 @@ module _ (s : Streams) (m : Machine) (c : Cursor) (l : Stalls) (quiet : ℕ) (h 
   unfolding turn_of stalls_after
   says_own = go (next_word s c) refl
     where
-      go : (w : Offered) → next_word s c ≡ w → waiting (by_word m c w).outcome ≡ true →
+      go : (w : Option ℕ) → next_word s c ≡ w → waiting (by_word m c w).outcome ≡ true →
           Says m c.next w (stall_of (stalls_after (by_word m c w).outcome c.next l) c.next)
-      go NoWord e y = x.clear c.next h e
-      go (NextWord w) e y =
+      go None e y = x.clear c.next h e
+      go (Some w) e y =
           let z = offer_stands m c.next w y in
           record { number = z.number; cause = z.cause; last = rw z.is (stall_own l (stalled_by z.number z.cause) c.next h); offered = z.is }
 

@@ -12,7 +12,7 @@ use lib.Dec.{leb, ltb, eqb-suc-zero}
 use lib.ListN.{length}
 use borrow.Author.Tests.{lt-ltb, le-ltb, le-leb, lt-leb, leb-true, leb-false}
 use Rattle.machine.specs.Machine.{Machine}
-use Rattle.machine.specs.declared.access.Access.TheVariants.{Granted}
+use Rattle.std.specs.Prelude.{Ok}
 use Rattle.machine.specs.Answers.{Told, accepted}
 use Rattle.run_order.specs.declared.cursor.Cursor.{Cursor}
 use Rattle.run_order.specs.Cursor.{Streams, used_up, onward_of}
@@ -128,5 +128,5 @@ stuck_for_good s m c budget again e h =
     let d = (run_of s m c budget).cursor in
     let x = run_settles s m c budget e in
     let r = stays s n d _ again 0 d x (record { at0 = refl; at1 = refl; at2 = refl }) in
-    rw (← call_runs s n d again Granted (sym (ready_call s n d again x.ready h)) refl)
+    rw (← call_runs s n d again (Ok tt) (sym (ready_call s n d again x.ready h)) tt refl)
     (record { each = r.each; count = r.count ∙ rw zero-add; answer = r.answer ∙ rw zero-add; after = r.after; positions = r.positions })

@@ -16,18 +16,17 @@ use Rattle.machine.specs.Outcomes.{Progress, idle, passed, stalled}
 use Rattle.step_rules.specs.Step.{Step, offer_of}
 use Rattle.step_rules.proofs.Kept.{offer_kept}
 use Rattle.run_order.specs.declared.cursor.Cursor.{Cursor}
-use Rattle.run_order.specs.declared.cursor.Offered.{Offered}
-use Rattle.run_order.specs.declared.cursor.Offered.TheVariants.{NextWord, NoWord}
+use Rattle.std.specs.Prelude.{Option, Some, None}
 use Rattle.run_order.specs.Cursor.{Streams, word_at, next_word, cursor, following, onward_of, past_of, moved_of}
 use Rattle.run_rules.specs.Run.{turned, by_word, turn_of}
 use Rattle.run_rules.specs.Ready.{Within, Ready}
 
-module _ (s : Streams) (m : Machine) (c k : Cursor) (o : Offered) (eo : o ≡ next_word s c) where
-  pub turn_idle : o ≡ NoWord → k ≡ onward_of c → turned (accepted idle) m k ≡ turn_of s m c
+module _ (s : Streams) (m : Machine) (c k : Cursor) (o : Option ℕ) (eo : o ≡ next_word s c) where
+  pub turn_idle : o ≡ None → k ≡ onward_of c → turned (accepted idle) m k ≡ turn_of s m c
   unfolding turn_of moved_of
   turn_idle e ek = rw (ek, ← eo, e)
 
-  pub turn_offers : (w : ℕ) (x : Step) → o ≡ NextWord w → x ≡ offer_of m c.next w → k ≡ moved_of x.outcome c →
+  pub turn_offers : (w : ℕ) (x : Step) → o ≡ Some w → x ≡ offer_of m c.next w → k ≡ moved_of x.outcome c →
       turned x.outcome x.after k ≡ turn_of s m c
   unfolding turn_of
   turn_offers w x e ex ek = rw (ek, ex, ← eo, e)
@@ -37,9 +36,9 @@ pub turn_moved : (s : Streams) (m : Machine) (c : Cursor) → (turn_of s m c).cu
 unfolding turn_of
 turn_moved s m c = go (next_word s c)
   where
-    go : (o : Offered) → (by_word m c o).cursor ≡ moved_of (by_word m c o).outcome c
-    go NoWord = refl
-    go (NextWord w) = refl
+    go : (o : Option ℕ) → (by_word m c o).cursor ≡ moved_of (by_word m c o).outcome c
+    go None = refl
+    go (Some w) = refl
 
 following_lt : (t : ℕ) → following t < 3
 unfolding following
@@ -54,15 +53,15 @@ unfolding onward_of
 onward_within s c w = record { at0 = w.at0; at1 = w.at1; at2 = w.at2; thread = following_lt c.next }
 
 -- where a word stands, the position is not at the end
-word_lt : (l : List ℕ) (i w : ℕ) → word_at l i ≡ NextWord w → i < length l
+word_lt : (l : List ℕ) (i w : ℕ) → word_at l i ≡ Some w → i < length l
 unfolding word_at
 word_lt l i w e = go (ltb i (length l)) refl e
   where
-    go : (b : Bool) → ltb i (length l) ≡ b → cond b (NextWord (get_or l i 0)) NoWord ≡ NextWord w → i < length l
+    go : (b : Bool) → ltb i (length l) ≡ b → cond b (Some (get_or l i 0)) None ≡ Some w → i < length l
     go true eb h = ltb-true i (length l) eb
     go false eb h = let z : ◌≡◌ {A = ℕ} 0 1 = cc in absurd (omega arith)
 
-past_within : (s : Streams) (c : Cursor) (w : ℕ) → next_word s c ≡ NextWord w → Within s c → Within s (past_of c)
+past_within : (s : Streams) (c : Cursor) (w : ℕ) → next_word s c ≡ Some w → Within s c → Within s (past_of c)
 unfolding next_word past_of
 past_within s c w e r = go (eqb c.next 0) (eqb c.next 1) e
   where
@@ -70,7 +69,7 @@ past_within s c w e r = go (eqb c.next 0) (eqb c.next 1) e
     t = following c.next
 
     go : (x y : Bool) →
-        cond x (word_at s.s0 c.at0) (cond y (word_at s.s1 c.at1) (word_at s.s2 c.at2)) ≡ NextWord w →
+        cond x (word_at s.s0 c.at0) (cond y (word_at s.s1 c.at1) (word_at s.s2 c.at2)) ≡ Some w →
         Within s
         (cond x (cursor (c.at0 + 1) c.at1 c.at2 t)
         (cond y (cursor c.at0 (c.at1 + 1) c.at2 t)
@@ -82,7 +81,7 @@ past_within s c w e r = go (eqb c.next 0) (eqb c.next 1) e
     go false false h =
         record { at0 = r.at0; at1 = r.at1; at2 = omega (arith, word_lt s.s2 c.at2 w h); thread = following_lt c.next }
 
-moved_within : (s : Streams) (c : Cursor) (w : ℕ) (o : Told Progress) → next_word s c ≡ NextWord w → Within s c → Within s (moved_of o c)
+moved_within : (s : Streams) (c : Cursor) (w : ℕ) (o : Told Progress) → next_word s c ≡ Some w → Within s c → Within s (moved_of o c)
 unfolding moved_of
 moved_within s c w (accepted idle) e r = onward_within s c r
 moved_within s c w (accepted passed) e r = past_within s c w e r
@@ -94,9 +93,9 @@ pub turn_ready : (s : Streams) (m : Machine) (c : Cursor) → Ready s m c → Re
 unfolding turn_of moved_of
 turn_ready s m c r = go (next_word s c) refl
   where
-    go : (o : Offered) → next_word s c ≡ o → Ready s (by_word m c o).after (by_word m c o).cursor
-    go NoWord e = record { whole = r.whole; lengths = r.lengths; within = onward_within s c r.within }
-    go (NextWord w) e =
+    go : (o : Option ℕ) → next_word s c ≡ o → Ready s (by_word m c o).after (by_word m c o).cursor
+    go None e = record { whole = r.whole; lengths = r.lengths; within = onward_within s c r.within }
+    go (Some w) e =
         record {
           whole = offer_kept m c.next w r.within.thread r.whole;
           lengths = r.lengths;

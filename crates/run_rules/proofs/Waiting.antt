@@ -9,8 +9,7 @@ use Rattle.machine.specs.Outcomes.{Progress, idle, passed, stalled, has_passed}
 use Rattle.step_rules.specs.Step.{offer_of}
 use Rattle.step_rules.proofs.Unchanged.{offer_unchanged}
 use Rattle.run_order.specs.declared.cursor.Cursor.{Cursor}
-use Rattle.run_order.specs.declared.cursor.Offered.{Offered}
-use Rattle.run_order.specs.declared.cursor.Offered.TheVariants.{NextWord, NoWord}
+use Rattle.std.specs.Prelude.{Option, Some, None}
 use Rattle.run_order.specs.Cursor.{Streams, next_word, onward_of, moved_of}
 use Rattle.run_order.specs.Ending.{refused_word, quiet_after, goes_on}
 use Rattle.run_rules.specs.Run.{by_word, turn_of}
@@ -43,9 +42,9 @@ pub turn_keeps : (s : Streams) (m : Machine) (c : Cursor) → has_passed (turn_o
 unfolding turn_of
 turn_keeps s m c h = go (next_word s c) h
   where
-    go : (o : Offered) → has_passed (by_word m c o).outcome ≡ false → (by_word m c o).after ≡ m
-    go NoWord e = refl
-    go (NextWord w) e = offer_unchanged m c.next w e
+    go : (o : Option ℕ) → has_passed (by_word m c o).outcome ≡ false → (by_word m c o).after ≡ m
+    go None e = refl
+    go (Some w) e = offer_unchanged m c.next w e
 
 pub turn_waits : (s : Streams) (m : Machine) (c : Cursor) → Waits s m c → (turn_of s m c).after ≡ m
 turn_waits s m c h = turn_keeps s m c (waiting_quiet (turn_of s m c).outcome h)
@@ -54,6 +53,6 @@ pub turn_moves : (s : Streams) (m : Machine) (c : Cursor) → Waits s m c → (t
 unfolding turn_of
 turn_moves s m c h = go (next_word s c) h
   where
-    go : (o : Offered) → waiting (by_word m c o).outcome ≡ true → (by_word m c o).cursor ≡ onward_of c
-    go NoWord e = (waited (accepted idle) c 0 refl).moves
-    go (NextWord w) e = (waited (offer_of m c.next w).outcome c 0 e).moves
+    go : (o : Option ℕ) → waiting (by_word m c o).outcome ≡ true → (by_word m c o).cursor ≡ onward_of c
+    go None e = (waited (accepted idle) c 0 refl).moves
+    go (Some w) e = (waited (offer_of m c.next w).outcome c 0 e).moves

@@ -4,10 +4,8 @@ use Rattle.machine.specs.Answers.{Told, accepted}
 use Rattle.machine.specs.Outcomes.{Progress, idle}
 use Rattle.step_rules.specs.Step.{Step, offer_of}
 use Rattle.run_order.specs.declared.cursor.Cursor.{Cursor}
-use Rattle.run_order.specs.declared.cursor.Offered.{Offered}
-use Rattle.run_order.specs.declared.cursor.Offered.TheVariants.{NextWord, NoWord}
 use Rattle.run_order.specs.Cursor.{Streams, next_word, moved_of}
-use Rattle.std.specs.Prelude.{ℕ, zero, suc, List, [], ◌∷◌, length}
+use Rattle.std.specs.Prelude.{ℕ, zero, suc, List, [], ◌∷◌, length, Option, Some, None}
 use Rattle.run_order.specs.Stalls.{Stalls, no_stalls, stalls_after}
 use Rattle.run_order.specs.Ending.{halt_of, refused_word, quiet_after, RunEnd, Halted, halts, goes_on, budget_used}
 use Rattle.run_rules.specs.Checks.{call_check, call_halt}
@@ -25,9 +23,9 @@ turned o m c = record { outcome = o; after = m; cursor = c }
 abbrev pub offered_turn : Step → Cursor → Turn
 offered_turn x c = turned x.outcome x.after (moved_of x.outcome c)
 
-abbrev pub by_word : Machine → Cursor → Offered → Turn
-by_word m c (NextWord w) = offered_turn (offer_of m c.next w) c
-by_word m c NoWord = turned (accepted idle) m (moved_of (accepted idle) c)
+abbrev pub by_word : Machine → Cursor → Option ℕ → Turn
+by_word m c (Some w) = offered_turn (offer_of m c.next w) c
+by_word m c None = turned (accepted idle) m (moved_of (accepted idle) c)
 
 -- offers the next thread's word, or does nothing if its stream is used up
 unfoldable pub turn_of : Streams → Machine → Cursor → Turn

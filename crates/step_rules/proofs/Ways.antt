@@ -10,8 +10,7 @@ use Rattle.machine.proofs.Checks.{provided_test, provided_rest}
 use Rattle.machine.specs.declared.refusal.Refusal.{Refusal}
 use Rattle.machine.specs.Machine.{Machine}
 use Rattle.machine.specs.Formed.{sized, formed, control_formed}
-use Rattle.machine.specs.declared.access.Access.{Access}
-use Rattle.machine.specs.declared.access.Access.TheVariants.{Granted, Refused}
+use Rattle.std.specs.Prelude.{Result, Ok, Err}
 use Rattle.machine.specs.Answers.{Told, accepted, refusal, told}
 use Rattle.word_rules.specs.declared.instruction.Instruction.{Instruction}
 use Rattle.word_rules.specs.Table.{decode_of}
@@ -22,16 +21,16 @@ pub offered_as : (m : Machine) (t w : ℕ) (x : Told Instruction) → decode_of 
 unfolding offer_of
 offered_as m t w x e = ap (λ (y : Told Instruction). by_decoded m t y) (sym e)
 
-module _ (m : Machine) (t : ℕ) (k : Access) (e : told k ≡ check_of m t) where
+module _ (m : Machine) (t : ℕ) (k : Result (Unit {0}) Refusal) (e : told k ≡ check_of m t) where
   by_check_lem : (w : ℕ) → step_of m t w ≡ by_check m t w (told k)
   unfolding step_of
   by_check_lem w = ap (λ (x : Told (Unit {0})). by_check m t w x) (sym e)
 
-  pub call_refused_lem : (w : ℕ) (r : Refusal) → k ≡ Refused r → stepped (refusal r) m ≡ step_of m t w
-  call_refused_lem w r h = sym (by_check_lem w ∙ ap (λ (x : Access). by_check m t w (told x)) h)
+  pub call_refused_lem : (w : ℕ) (r : Refusal) → k ≡ Err r → stepped (refusal r) m ≡ step_of m t w
+  call_refused_lem w r h = sym (by_check_lem w ∙ ap (λ (x : Result (Unit {0}) Refusal). by_check m t w (told x)) h)
 
-  pub call_offered : (w : ℕ) (s : Step) → k ≡ Granted → s ≡ offer_of m t w → s ≡ step_of m t w
-  call_offered w s h p = p ∙ sym (by_check_lem w ∙ ap (λ (x : Access). by_check m t w (told x)) h)
+  pub call_offered : (w : ℕ) (s : Step) (u : Unit {0}) → k ≡ Ok u → s ≡ offer_of m t w → s ≡ step_of m t w
+  call_offered w s u h p = p ∙ sym (by_check_lem w ∙ ap (λ (x : Result (Unit {0}) Refusal). by_check m t w (told x)) h)
 
 -- what a call that is not refused has shown
 pub record Shown (m : Machine) (t : ℕ) : Type 0 where
@@ -53,5 +52,5 @@ accepted_shows m t u e =
       thread = omega (arith, leb-true t 2 (provided_test (leb t 2) 1 _ u l));
     }
 
-pub granted_shows : (m : Machine) (t : ℕ) (k : Access) → told k ≡ check_of m t → k ≡ Granted → Shown m t
-granted_shows m t k e h = accepted_shows m t tt (sym e ∙ ap told h)
+pub granted_shows : (m : Machine) (t : ℕ) (k : Result (Unit {0}) Refusal) (u : Unit {0}) → told k ≡ check_of m t → k ≡ Ok u → Shown m t
+granted_shows m t k u e h = accepted_shows m t u (sym e ∙ ap told h)
