@@ -1,20 +1,21 @@
 -- Laws of lists that are made cell by cell of others.
-use Prim.Native.Nat.{ℕ, zero, suc, ◌<◌}
+use Prim.Native.Nat.{ℕ, suc, ◌<◌}
 use mathlib.Core.List.{List, [], ◌∷◌, zip_with}
-use mathlib.Core.Path.{◌≡◌, refl, ap}
+use mathlib.Core.Path.{◌≡◌, refl}
 use native.Mathlib.Omega.{arith}
 use lib.ListN.{length, get_or}
+use Rattle.bench_cells.specs.Cells.{wide_cell, wide_cells}
 
-module _ {A B C : Type 0} (f : A → B → C) where
-  pub zip_long : (a : List A) (b : List B) → length a ≡ length b → length (zip_with f a b) ≡ length a
-  unfolding zip_with
-  zip_long [] b h = refl
-  zip_long (x ∷ a) [] h = absurd (omega arith)
-  zip_long (x ∷ a) (y ∷ b) h = ap suc (zip_long a b (omega arith))
-
-  pub zip_at : (a : List A) (b : List B) (i : ℕ) (d : A) (e : B) (z : C) → length a ≡ length b → i < length a → get_or (zip_with f a b) i z ≡ f (get_or a i d) (get_or b i e)
-  unfolding zip_with
-  zip_at [] b i d e z h k = absurd (omega arith)
-  zip_at (x ∷ a) [] i d e z h k = absurd (omega arith)
-  zip_at (x ∷ a) (y ∷ b) zero d e z h k = refl
-  zip_at (x ∷ a) (y ∷ b) (suc i) d e z h k = zip_at a b i d e z (omega arith) (omega arith)
+-- a list whose every cell is made of those of two others
+pub wide_each : (a b l : List ℕ) → length a ≡ length l → length b ≡ length l →
+    ((k : ℕ) → k < length l → get_or l k 0 ≡ wide_cell (get_or a k 0) (get_or b k 0)) → l ≡ wide_cells a b
+unfolding zip_with
+wide_each [] [] [] p q h = refl
+wide_each [] (y ∷ b) [] p q h = absurd (omega arith)
+wide_each (x ∷ a) b [] p q h = absurd (omega arith)
+wide_each [] b (z ∷ l) p q h = absurd (omega arith)
+wide_each (x ∷ a) [] (z ∷ l) p q h = absurd (omega arith)
+wide_each (x ∷ a) (y ∷ b) (z ∷ l) p q h =
+    let e : z ≡ wide_cell x y = h 0 (omega arith) in
+    let f : l ≡ wide_cells a b = wide_each a b l (omega arith) (omega arith) (λ k m. h (suc k) (omega arith)) in
+    rw (e, ← f) refl

@@ -1,11 +1,7 @@
 -- The cells of a row.
-use Rattle.std.specs.Prelude.{ℕ, ◌+◌, ◌*◌, ◌/◌, ◌%◌}
+use Rattle.std.specs.Prelude.{ℕ, ◌+◌, ◌*◌}
 use mathlib.Core.List.{List, map, zip_with}
 use Rattle.bits.specs.Field.{field}
-
--- 16 bits of a 32-bit cell: from bit 16 on where the unit is 65,536, from bit 0 on where it is 1
-abbrev pub half_at : ℕ → ℕ → ℕ
-half_at unit cell = cell / unit % 65536
 
 -- the high halves hold bits 16–31 of each 32-bit cell
 abbrev pub high_halves : List ℕ → List ℕ

@@ -2,20 +2,7 @@
 use Rattle.std.specs.Prelude.{ℕ, List, eqb, leb, length, get_or, set}
 use Rattle.machine.specs.Sizes.{gpr_count}
 use Rattle.machine.specs.Units.{gpr, gpr_place}
-use Rattle.machine.specs.Answers.{Told, accepted, refusal, provided, Call, checked}
-use Rattle.bench_gprs.specs.declared.GprFound.{GprFound}
-use Rattle.bench_gprs.specs.declared.GprFound.TheVariants.{GprAt}
-use Rattle.bench_gprs.specs.declared.GprRead.{GprRead}
-use Rattle.bench_gprs.specs.declared.GprRead.TheVariants.{Value}
-
--- where a GPR was looked for
-abbrev pub told_place : GprFound → Told ℕ
-told_place (GprAt at) = accepted at
-told_place (GprFound.Refused r) = refusal r
-
-abbrev pub told_value : GprRead → Told ℕ
-told_value (Value v) = accepted v
-told_value (GprRead.Refused r) = refusal r
+use Rattle.machine.specs.Answers.{Told, accepted, provided, Call, checked}
 
 -- 4: not 192 GPRs lent; 1: thread not 0–2; 11: register over 63. By their type all GPRs are in range, so 10 is never given
 unfoldable pub gpr_check : {A : Type 0} → ℕ → ℕ → ℕ → Told A → Told A
