@@ -1,9 +1,11 @@
 -- How far fields are good: laws of one field, of two parts in a row, and of a loop over many.
-use Prim.Native.Nat.{ℕ, zero, suc, ◌+◌, ◌*◌, ◌-◌, ◌/◌, ◌^◌, ◌≤◌, ◌<◌}
+use Prim.Native.Nat.{ℕ, zero, suc, min, ◌+◌, ◌*◌, ◌-◌, ◌/◌, ◌^◌, ◌≤◌, ◌<◌}
 use mathlib.Core.Path.{◌≡◌, refl, sym, ap, ap₂, ◌∙◌}
 use mathlib.Core.Bool.{Bool, true, false, cond, ◌&&◌}
 use mathlib.Core.List.{List}
-use native.Mathlib.Nat.{add_assoc, zero-add, suc-mul, mul-le-mul_right, div-mul-le_self, le-div_iff_mul-le, lt-div-mul-add}
+use mathlib.Core.Logic.{◌⊎◌, inl, inr}
+use native.Mathlib.Nat.{add_assoc, suc-mul, mul-le-mul_right, div-mul-le_self, lt-div-mul-add}
+use native.Mathlib.Numerals.{add-one}
 use native.Mathlib.Omega.{arith}
 use lib.Dec.{leb, ltb, eqb}
 use lib.ListN.{length, drop, length-drop}
@@ -24,13 +26,10 @@ module _ (w lo hi : ℕ) (bs : List ℕ) where
   unfolding num_good
   num_cut a = simp (lt-leb _ _ a)
 
-  pub num_under : w ≤ length bs → le w bs < lo → num_good w lo hi bs ≡ 0
+  pub num_out : w ≤ length bs → (lo ≤ le w bs × hi < le w bs) ⊎ (le w bs < lo) → 0 ≡ num_good w lo hi bs
   unfolding num_good
-  num_under a b = simp (le-leb _ _ a, lt-leb _ _ b)
-
-  pub num_past : w ≤ length bs → lo ≤ le w bs → hi < le w bs → num_good w lo hi bs ≡ 0
-  unfolding num_good
-  num_past a b c = simp (le-leb _ _ a, le-leb _ _ b, lt-leb _ _ c)
+  num_out a (inl (b, c)) = simp (le-leb _ _ a, le-leb _ _ b, lt-leb _ _ c)
+  num_out a (inr b) = simp (le-leb _ _ a, lt-leb _ _ b)
 
   pub num_le : num_good w lo hi bs ≤ w
   unfolding num_good
@@ -139,55 +138,53 @@ across_across a n b m c h = go (ltb a n) (ltb b m) refl refl
     go false true p q = across_stop (n + b) (n + m) c (omega (arith, ltb-true b m q))
     go false false p q = across_on (n + b) (n + m) c (omega (arith, ltb-false b m q)) ∙ add_assoc n m c
 
--- the bytes of what is left are those of one field and of the rest
-pub room_next : (n i w : ℕ) → i < n → (n - i) * w ≡ w + (n - (i + 1)) * w
-room_next n i w h =
-    let e : n - i ≡ suc (n - (i + 1)) = omega arith in
-    rw e (suc-mul (n - (i + 1)) w ∙ omega arith)
+-- the place of the value after the i-th, and that each of n values lies within them
+pub next_at : (at i w : ℕ) → at + (i + 1) * w ≡ at + i * w + w
+next_at at i w = rw (add-one, suc-mul) (omega arith)
 
--- ---- n of them: a loop that has found i of them good, in p bytes, and has the rest to look at
-pub record Checking (good : List ℕ → ℕ) (w : ℕ) (s : List ℕ) (at n p i : ℕ) : Type 0 where
+pub run_within : (at n i w k : ℕ) → i < n → at + n * w ≤ k → at + i * w + w ≤ k
+run_within at n i w k h room =
+    let m : (i + 1) * w ≤ n * w = mul-le-mul_right w (omega arith) in
+    omega (arith, next_at at i w)
+
+-- ---- n of them: a loop that has found i of them good, and has the rest to look at
+pub record Checking (good : List ℕ → ℕ) (w : ℕ) (s : List ℕ) (at n i : ℕ) : Type 0 where
   pub within : i ≤ n
-  pub left : p + (n - i) * w ≡ n * w
-  pub total : p + many_good good w (n - i) (drop (at + p) s) ≡ many_good good w n (drop at s)
+  pub total : i * w + many_good good w (n - i) (drop (at + i * w) s) ≡ many_good good w n (drop at s)
 
 module _ {good : List ℕ → ℕ} {w : ℕ} {s : List ℕ} {at n : ℕ} where
-  pub checking_starts : Checking good w s at n 0 0
+  pub checking_starts : Checking good w s at n 0
   checking_starts =
       let z : n - 0 ≡ n = omega arith in
-      let y : at + 0 ≡ at = omega arith in
-      record { within = omega arith; left = rw z (zero-add _); total = rw (z, y) (zero-add _) }
+      let y : at + 0 * w ≡ at = omega arith in
+      record { within = omega arith; total = rw (z, y) (omega arith) }
 
-module _ {good : List ℕ → ℕ} {w : ℕ} {s : List ℕ} {at n p i : ℕ} (r : Checking good w s at n p i) where
-  -- the next field is one of the n
-  pub checking_left : i < n → p + w + (n - (i + 1)) * w ≡ n * w
-  checking_left h = omega (arith, room_next n i w h, r.left)
-
-  pub checking_goes : i < n → w ≤ good (drop (at + p) s) → Checking good w s at n (p + w) (i + 1)
+module _ {good : List ℕ → ℕ} {w : ℕ} {s : List ℕ} {at n i : ℕ} (r : Checking good w s at n i) where
+  pub checking_goes : i < n → w ≤ good (drop (at + i * w) s) → Checking good w s at n (i + 1)
   unfolding many_good
   checking_goes h whole =
       let m : n - i ≡ suc (n - (i + 1)) = omega arith in
+      let p : (i + 1) * w ≡ i * w + w = rw (add-one, suc-mul) (omega arith) in
       record {
         within = omega arith;
-        left = checking_left h;
         total =
-            rw (← add_assoc at p w, ← drop-drop w (at + p) s, add_assoc p w _)
-            (rw (m, across_on (good (drop (at + p) s)) w _ whole) at r.total);
+            rw (next_at at i w, p, ← drop-drop w (at + i * w) s, add_assoc (i * w) w _)
+            (rw (m, across_on (good (drop (at + i * w) s)) w _ whole) at r.total);
       }
 
-  pub checking_stops : i < n → good (drop (at + p) s) < w → p + good (drop (at + p) s) ≡ many_good good w n (drop at s)
+  pub checking_stops : i < n → good (drop (at + i * w) s) < w → i * w + good (drop (at + i * w) s) ≡ many_good good w n (drop at s)
   unfolding many_good
   checking_stops h cut =
       let m : n - i ≡ suc (n - (i + 1)) = omega arith in
-      rw (m, across_stop (good (drop (at + p) s)) w _ cut) at r.total
+      rw (m, across_stop (good (drop (at + i * w) s)) w _ cut) at r.total
 
-  pub checking_ends : n ≤ i → (p ≡ many_good good w n (drop at s)) × (p ≡ n * w)
+  pub checking_ends : n ≤ i → n * w ≡ many_good good w n (drop at s)
   unfolding many_good
   checking_ends h =
       let m : n - i ≡ 0 = omega arith in
-      let z : p + 0 ≡ p = omega arith in
-      let y : p + 0 * w ≡ p = omega arith in
-      (rw (m, z) at r.total, rw (m, y) at r.left)
+      let e : i ≡ n = omega (arith, r.within) in
+      let z : n * w + 0 ≡ n * w = omega arith in
+      rw (m, e, z) at r.total
 
 -- n pairs of one kind of field are twice as many fields
 pub pairs_good : (good : List ℕ → ℕ) (size : ℕ) → ((bs : List ℕ) → good bs ≤ size) → (n : ℕ) (bs : List ℕ) →
@@ -217,13 +214,21 @@ any_good w pos (suc n) (suc k) bs b h fit end =
     (λ more. simp length-drop (omega (arith, end (omega arith)))) in
     rw (whole, rest) (across_on w w (k * w) (omega arith) ∙ omega arith)
 
--- as many as fit into the x bytes, where those are fewer than n, and else n
+-- as many as fit into the x bytes, or all n
 module _ (w : ℕ) (pos : 0 < w) (n : ℕ) (bs : List ℕ) (b : Bytes bs) (x : ℕ) (e : x ≡ length bs) where
-  pub any_some : x / w < n → (x / w * w ≡ many_good (num_good w 0 (256 ^ w - 1)) w n bs) × (x / w * w ≤ n * w)
-  any_some h =
-      let fit : x / w * w ≤ length bs = omega (arith, div-mul-le_self x w) in
-      let end : length bs < x / w * w + w = omega (arith, lt-div-mul-add {a = x} pos) in
-      (sym (any_good w pos n (x / w) bs b (omega arith) fit (λ _. end)), mul-le-mul_right w (omega arith))
+  pub any_some : min n (x / w) * w ≡ many_good (num_good w 0 (256 ^ w - 1)) w n bs
+  any_some =
+      let k = min n (x / w) in
+      let few : k * w ≤ x / w * w = mul-le-mul_right w (omega arith) in
+      let fit : k * w ≤ length bs = omega (arith, div-mul-le_self x w) in
+      let end : k < n → length bs < k * w + w = λ h. let q : k ≡ x / w = omega arith in rw q (omega (arith, lt-div-mul-add {a = x} pos)) in
+      sym (any_good w pos n k bs b (omega arith) fit end)
 
-  pub any_all : n ≤ x / w → n * w ≡ many_good (num_good w 0 (256 ^ w - 1)) w n bs
-  any_all h = sym (any_good w pos n n bs b (omega arith) (omega (arith, (le-div_iff_mul-le {x = n} {y = x} pos).0 h)) (λ more. absurd (omega arith)))
+-- the largest number of w bytes, by the bits of a word that it leaves
+pub largest_shift : (w : ℕ) → 0 < w → w ≤ 4 → 4294967295 / 2 ^ (32 - 8 * w) ≡ 256 ^ w - 1
+largest_shift zero h k = absurd (omega arith)
+largest_shift (suc zero) h k = refl
+largest_shift (suc (suc zero)) h k = refl
+largest_shift (suc (suc (suc zero))) h k = refl
+largest_shift (suc (suc (suc (suc zero)))) h k = refl
+largest_shift (suc (suc (suc (suc (suc w))))) h k = absurd (omega arith)

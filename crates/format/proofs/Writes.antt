@@ -1,5 +1,5 @@
 -- Writes in a row: each begins where the one before ended.
-use Prim.Native.Nat.{ℕ, suc, ◌+◌, ◌*◌, ◌/◌, ◌%◌, ◌≤◌}
+use Prim.Native.Nat.{ℕ, ◌+◌, ◌*◌, ◌≤◌}
 use mathlib.Core.Path.{◌≡◌, sym, ap, ◌∙◌}
 use mathlib.Core.List.{List, ◌++◌}
 use lib.ListN.{length}
@@ -8,7 +8,6 @@ use Rattle.bits.specs.Overwrite.{over, Wrote}
 use Rattle.bits.proofs.Bytes.{enc_long}
 use Rattle.bits.proofs.Overwrite.{wrote_then, wrote_within}
 use Rattle.format.specs.Format.{many_put, numbers, head_bytes, head, kind}
-use Rattle.format.proofs.Joins.{enc_past_half}
 
 -- two writes are one; the second, which may be several in a row itself, is told that its place is within the list
 pub wrote_next : {A : Type 0} {l m n a b : List A} {k j i : ℕ} → k ≤ length l → Wrote l k a m j → (j ≤ length m → Wrote m j b n i) → Wrote l k (a ++ b) n i
@@ -23,11 +22,6 @@ wrote_from i e p = rw e at p
 
 pub wrote_number : {l m : List ℕ} (at w n : ℕ) → m ≡ over l at (enc w n) → Wrote l at (enc w n) m (at + w)
 wrote_number at w n e = record { placed = ap (λ (k : ℕ). at + k) (sym (enc_long w n)); list = e }
-
--- a number of more than two bytes, the low half first
-pub wrote_past_half : {l m n : List ℕ} {i : ℕ} (k at w v : ℕ) → w ≡ suc (suc k) → at ≤ length l → Wrote l at (enc 2 (v % 65536)) m (at + 2) →
-    Wrote m (at + 2) (enc k (v / 65536)) n i → Wrote l at (enc w v) n (at + w)
-wrote_past_half k at w v e h p q = wrote_number at w v (rw (e, enc_past_half k v) (wrote_then p q h).list)
 
 -- a record of numbers, with a head by the length of the part that has them, which is n
 pub wrote_numbers : {o m : List ℕ} (k w hi n at next : ℕ) (l : List ℕ) → length l ≡ n → at + head_bytes + n * w ≡ next →

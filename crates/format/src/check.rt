@@ -7,6 +7,7 @@ use crate::HEAD_BYTES;
 
 // How far two parts in a row are good: to `a` where that is short of the first part's `n` bytes, else `b` bytes into the
 // second. Internal: the places are small numbers.
+#[tactic(auto, unfolding(crate::specs::Format::good_across))]
 pub fn good_across(a: usize, n: usize, b: usize) -> usize
     requires { n + b ≤ place_most }
     ensures { (result ≡ good_across a n b) × (result ≤ n + b) }
@@ -14,62 +15,46 @@ pub fn good_across(a: usize, n: usize, b: usize) -> usize
     if a < n { a } else { n + b }
 }
 
-// `w` where a field of `w` bytes stands at `at` and is from `lo` to `hi`, else 0. Internal: it has one to four bytes.
-pub fn field(s: &[u8], at: usize, w: usize, lo: u32, hi: u32) -> usize
-    requires { (at ≤ place_most) × (0 < w) × (w ≤ 4) }
-    ensures { (result ≡ (num w lo hi).good (drop at s.now)) × (result ≤ w) }
+// W where a field of W bytes stands at `at` and is from `lo` to `hi`, else 0. Internal: it has one to four bytes.
+pub fn field<const W: usize>(s: &[u8], at: usize, lo: u32, hi: u32) -> usize
+    requires { (at ≤ place_most) × (0 < W) × (W ≤ 4) }
+    ensures { (result ≡ (num W lo hi).good (drop at s.now)) × (result ≤ W) }
 {
-    if s.len() < at + w {
+    if s.len() < at + W {
         return 0;
     }
-    let v = crate::number::read(s, at, w);
-    if v < lo {
-        return 0;
-    }
-    if hi < v {
-        return 0;
-    }
-    w
+    let v = crate::number::read::<W>(s, at);
+    if lo <= v && v <= hi { W } else { 0 }
 }
 
-// How far `n` fields of `w` bytes from `at` are good, each at most `hi`. Internal: the places are small numbers.
-pub fn fields(s: &[u8], at: usize, n: usize, w: usize, hi: u32) -> usize
-    requires { (at + n * w ≤ place_most) × (0 < w) × (w ≤ 4) }
-    ensures { (result ≡ (numbers n w hi).good (drop at s.now)) × (result ≤ n * w) }
+// The largest number of W bytes. Internal: there are one to four.
+fn largest<const W: usize>() -> u32
+    requires { (0 < W) × (W ≤ 4) }
+    ensures { result ≡ 256 ^ W - 1 }
 {
-    let mut p: usize = 0;
-    let mut i: usize = 0;
-    while i < n {
-        let g = field(s, at + p, w, 0, hi);
-        if g < w {
-            return p + g;
+    u32::MAX >> (32 - 8 * W)
+}
+
+// How far `n` fields of W bytes from `at` are good, each at most `hi`. Internal: the places are small numbers.
+pub fn fields<const W: usize>(s: &[u8], at: usize, n: usize, hi: u32) -> usize
+    requires { (at + n * W ≤ place_most) × (0 < W) × (W ≤ 4) }
+    ensures { (result ≡ (numbers n W hi).good (drop at s.now)) × (result ≤ n * W) }
+{
+    // Fields that may hold any number can only be missing or cut.
+    if hi == largest::<W>() {
+        return n.min(s.len().saturating_sub(at) / W) * W;
+    }
+    for i in 0..n {
+        let good = field::<W>(s, at + i * W, 0, hi);
+        if good < W {
+            return i * W + good;
         }
-        p += w;
-        i += 1;
     }
-    p
-}
-
-// How many bytes stand from `at` on.
-fn rest(s: &[u8], at: usize) -> usize
-    ensures { result ≡ length (drop at s.now) }
-{
-    if s.len() < at { 0 } else { s.len() - at }
-}
-
-// The same of fields that may hold any number: they can only be missing or cut. Internal: the places are small numbers.
-pub fn any_fields(s: &[u8], at: usize, n: usize, w: usize) -> usize
-    requires { (at + n * w ≤ place_most) × (0 < w) × (w ≤ 4) }
-    ensures { (result ≡ (numbers n w (256 ^ w - 1)).good (drop at s.now)) × (result ≤ n * w) }
-{
-    let there = rest(s, at) / w;
-    if there < n {
-        return there * w;
-    }
-    n * w
+    n * W
 }
 
 // The largest that a field after a kind byte may be.
+#[tactic(auto, unfolding(crate::specs::Format::most_after))]
 pub fn most_after(kind: u32, most: u32) -> u32
     ensures { result ≡ most_after kind most }
 {
@@ -81,28 +66,18 @@ pub fn head(s: &[u8], at: usize, n: u32, k: u32) -> usize
     requires { at + head_bytes ≤ place_most }
     ensures { (result ≡ (head n k).good (drop at s.now)) × (result ≤ head_bytes) }
 {
-    let a = field(s, at, 4, n, n);
-    let b = field(s, at + 4, 2, k, k);
+    let a = field::<4>(s, at, n, n);
+    let b = field::<2>(s, at + 4, k, k);
     good_across(a, 4, b)
 }
 
-// How far a record of kind `k` is good that holds `n` numbers of `w` bytes, each at most `hi`. Internal: the places are
+// How far a record of kind `k` is good that holds `n` numbers of W bytes, each at most `hi`. Internal: the places are
 // small numbers.
-pub fn record(s: &[u8], at: usize, k: u32, n: usize, w: usize, hi: u32) -> usize
-    requires { (at + head_bytes + n * w ≤ place_most) × (0 < w) × (w ≤ 4) }
-    ensures { (result ≡ (kind k (numbers n w hi)).good (drop at s.now)) × (result ≤ head_bytes + n * w) }
+pub fn record<const W: usize>(s: &[u8], at: usize, k: u32, n: usize, hi: u32) -> usize
+    requires { (at + head_bytes + n * W ≤ place_most) × (0 < W) × (W ≤ 4) }
+    ensures { (result ≡ (kind k (numbers n W hi)).good (drop at s.now)) × (result ≤ head_bytes + n * W) }
 {
-    let h = head(s, at, (n * w) as u32, k);
-    let b = fields(s, at + HEAD_BYTES, n, w, hi);
-    good_across(h, HEAD_BYTES, b)
-}
-
-// The same of numbers without a limit. Internal: the places are small numbers.
-pub fn any_record(s: &[u8], at: usize, k: u32, n: usize, w: usize) -> usize
-    requires { (at + head_bytes + n * w ≤ place_most) × (0 < w) × (w ≤ 4) }
-    ensures { (result ≡ (kind k (numbers n w (256 ^ w - 1))).good (drop at s.now)) × (result ≤ head_bytes + n * w) }
-{
-    let h = head(s, at, (n * w) as u32, k);
-    let b = any_fields(s, at + HEAD_BYTES, n, w);
+    let h = head(s, at, (n * W) as u32, k);
+    let b = fields::<W>(s, at + HEAD_BYTES, n, hi);
     good_across(h, HEAD_BYTES, b)
 }

@@ -1,4 +1,4 @@
-use Rattle.text.proofs.Digits.{count_at_most, digits_long}
+use Rattle.text.proofs.Digits.{count_at_most, decimal_digits, digits_long}
 use Rattle.text.specs.Decimal.{digit_count, digits_most}
 use mathlib.Core.Path.{◌≡◌, sym, ap, ◌∙◌}
 use Prim.Native.Nat.{ℕ, ◌+◌, ◌≤◌}
@@ -20,4 +20,4 @@ returns c =
     let e = c.digit_count-k.ensures in
     let a = c.args in
     let long = e ∙ sym (digits_long (digit_count digits_most a.n) a.n) in
-    record { wrote = record { placed = ap (λ (x : ℕ). a.at + x) long; list = rw e at c.put_digits.ensures }; short = omega (arith, few _ _ e) }
+    record { wrote = record { placed = ap (λ (x : ℕ). a.at + x) long; list = rw (decimal_digits, e) at c.put_digits.ensures }; short = omega (arith, few _ _ e) }

@@ -1,32 +1,26 @@
-use Prim.Native.Nat.{◌+◌}
-use native.Mathlib.Omega.{arith}
-use Rattle.format.proofs.Joins.{le_byte, le_joined}
+use Rattle.std.proofs.Common.{◌≡◌, ◌+◌, ◌-◌, arith}
+use lib.ListN.{drop}
+use Rattle.bits.proofs.Bytes.{bytes_drop, le_lt}
+use Rattle.format.proofs.Joins.{le_starts, le_turn, le_fits}
 use Rattle.format.proofs.number.read.Goals as goal
 
-pub overflow_cast-result : goal.overflow_cast-result
-overflow_cast-result c = omega (arith, c.type_inv.s c.args.at)
+pub loop-i-init : goal.loop-i-init
+loop-i-init g c = le_starts _ _
 
-pub returns-then-w-eq1 : goal.returns-then-w-eq1
-returns-then-w-eq1 c = rw c.if-w-eq1.true (le_byte c.args.at c.args.s.now)
+pub overflow_mul-v : goal.overflow_mul-v
+overflow_mul-v g c =
+    omega (arith, le_fits g.row.W c.args.at c.loop-i.i c.args.s.now (λ i. (c.type_inv.s i).fits) c.loop-i-test.true c.loop-i.auto.i (omega arith) c.loop-i.invariant)
 
-pub returns-then-w-eq2 : goal.returns-then-w-eq2
-returns-then-w-eq2 c = rw c.if-w-eq2.true c.read_half-low.ensures
+pub overflow_add-v-in-loop-i : goal.overflow_add-v-in-loop-i
+overflow_add-v-in-loop-i g c =
+    omega (arith, le_fits g.row.W c.args.at c.loop-i.i c.args.s.now (λ i. (c.type_inv.s i).fits) c.loop-i-test.true c.loop-i.auto.i (omega arith) c.loop-i.invariant)
 
-pub returns-then-w-eq3 : goal.returns-then-w-eq3
-returns-then-w-eq3 c =
-    let a = c.args in
-    le_joined 1 a.w a.at a.s.now c.if-w-eq3.true c.read_half-low.ensures (le_byte (a.at + 2) a.s.now)
+pub loop-i-preserved : goal.loop-i-preserved
+loop-i-preserved g c =
+    le_turn g.row.W c.args.at c.loop-i.i c.args.s.now (λ i. (c.type_inv.s i).fits) c.loop-i-test.true c.loop-i.auto.i (omega arith) c.loop-i.invariant
 
-pub returns : goal.returns
-returns c =
-    let a = c.args in
-    le_joined 2 a.w a.at a.s.now (omega arith) c.read_half-low.ensures c.read_half-high.ensures
-
-pub overflow_cast-high : goal.overflow_cast-high
-overflow_cast-high c = omega (arith, c.type_inv.s (c.args.at + 2))
-
-pub overflow_mul-result : goal.overflow_mul-result
-overflow_mul-result c = omega (arith, c.type_inv.s (c.args.at + 2))
-
-pub overflow_add-result : goal.overflow_add-result
-overflow_add-result c = omega (arith, c.type_inv.s (c.args.at + 2))
+pub returns-clause-fits : goal.returns-clause-fits
+returns-clause-fits g c =
+    let l = c.loop-i in
+    let z : g.row.W - l.i ≡ g.row.W = omega arith in
+    rw (l.invariant, z) (le_lt g.row.W (drop (c.args.at + l.i) c.args.s.now) (bytes_drop (c.args.at + l.i) c.args.s.now (λ i. (c.type_inv.s i).fits)))
