@@ -4,5 +4,4 @@
 pub mod count;
 pub mod limits;
 pub mod mask;
-pub mod nine;
 pub mod stream;

@@ -2,6 +2,7 @@
 use Prim.Native.Nat.{ℕ, ◌≤◌, ◌<◌, min}
 use mathlib.Core.Bool.{Bool, true, false, not}
 use mathlib.Core.List.{List, []}
+use Rattle.std.specs.Prelude.{Option}
 use mathlib.Core.Path.{◌≡◌, refl, sym, ap, ◌∙◌}
 use native.Mathlib.Omega.{arith}
 use lib.Dec.{leb}
@@ -81,7 +82,7 @@ module _ (m : List ℕ) (c : Carried) (l : List ℕ) where
     malformed nine fits h = rw (eq-eqb (length m) nine_count nine, le-leb (length l) stream_most fits, h)
 
     -- what both stages leave is what an accepted call comes to
-    pub both_stages : (n high : ℕ) (s : List ℕ) (load : Load) (now : List ℕ) → n ≡ length given.words → high ≡ (stream_of m c.high_mask l).high →
+    pub both_stages : (n high : ℕ) (s : List ℕ) (load : Option Load) (now : List ℕ) → n ≡ length given.words → high ≡ (stream_of m c.high_mask l).high →
         buffer s load ≡ (play_words (buffer c.slots c.load) (stream_of m c.high_mask l).words).buffer →
         now ≡ over out 0 (play_words (buffer c.slots c.load) (stream_of m c.high_mask l).words).words →
         expanding (accepted n) (carry high s load) now ≡ done_with given out

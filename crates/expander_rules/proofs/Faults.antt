@@ -2,6 +2,7 @@
 use Prim.Native.Nat.{ℕ}
 use mathlib.Core.Bool.{Bool, true, false, not, ◌&&◌, ◌||◌}
 use mathlib.Core.List.{List, [], ◌∷◌}
+use Rattle.std.specs.Prelude.{Option}
 use mathlib.Core.Path.{◌≡◌, refl, sym, ◌∙◌}
 use Rattle.bits.proofs.Choices.{neither}
 use Rattle.machine.specs.Answers.{Told, accepted, refused, provided}
@@ -21,7 +22,7 @@ both_passed false true h = refused_accepted (sym h)
 both_passed false false h = (refl, (refl, h))
 
 -- the first word of a stream
-module _ (m : List ℕ) (high : ℕ) (load : Load) (word : ℕ) (l : List ℕ) where
+module _ (m : List ℕ) (high : ℕ) (load : Option Load) (word : ℕ) (l : List ℕ) where
   abbrev given : Emission
   given = emission_of m high word
 
@@ -46,7 +47,7 @@ module _ (m : List ℕ) (high : ℕ) (load : Load) (word : ℕ) (l : List ℕ) w
   sound_next e = both_passed (over_rounds m && is_template1 word) (any_obeyed_badly load given.words) e
 
 -- without a REPLAY there is 7 alone
-pub plain_fault : (m : List ℕ) (high : ℕ) (load : Load) (l : List ℕ) → any_replay (stream_of m high l).words ≡ false →
+pub plain_fault : (m : List ℕ) (high : ℕ) (load : Option Load) (l : List ℕ) → any_replay (stream_of m high l).words ≡ false →
     fault_of m high load l ≡ provided (not (bad_rounds m l)) 7 (accepted tt)
 unfolding fault_of stream_of any_word
 plain_fault m high load [] none = go (over_rounds m)

@@ -2,6 +2,7 @@
 use Prim.Native.Nat.{ℕ, ◌+◌, ◌-◌, ◌%◌}
 use mathlib.Core.Bool.{Bool, true, false, cond, not, ◌&&◌}
 use mathlib.Core.List.{List, [], ◌∷◌}
+use Rattle.std.specs.Prelude.{Option, Some, None}
 use mathlib.Core.Path.{◌≡◌, refl, ap}
 use native.Mathlib.Omega.{arith}
 use lib.Dec.{eqb, leb, ltb}
@@ -10,29 +11,28 @@ use Rattle.bits.proofs.Choices.{neither, and_right}
 use Rattle.machine.specs.Answers.{accepted}
 use Rattle.expander_rules.specs.Sizes.{slot_count}
 use Rattle.expander_rules.specs.Stream.{is_replay, emission_of, stream_of}
-use Rattle.expander_rules.specs.Replay.{is_load, start_of, length_of, one_taken, load_by, load_obeyed, load_after, buffer, loads_after, bad_length, obeyed_badly, any_obeyed_badly}
+use Rattle.expander_rules.specs.Replay.{is_load, start_of, length_of, taking, one_taken, load_by, load_obeyed, load_after, buffer, loads_after, bad_length, obeyed_badly, any_obeyed_badly}
 use Rattle.expander_rules.specs.State.{load_formed}
 use Rattle.expander_rules.specs.Call.{Expanding, fault_of, expansion_of, expand_of, close_check, closed, close_of}
 use Rattle.expander_rules.specs.Promises.{CarriesFormed}
 use Rattle.expander_rules.specs.declared.Carried.{Carried}
 use Rattle.expander_rules.specs.declared.Load.{Load}
-use Rattle.expander_rules.specs.declared.Load.TheVariants.{NoLoad, Taking}
 use Rattle.expander_rules.proofs.ReplayLaws.{bad_append, play_load}
 use Rattle.expander_rules.proofs.Faults.{sound_next}
 use Rattle.expander_rules.proofs.Calls.{accepts, passed_check, if_done, close_done}
 
 -- a load that takes a word
-taken_formed : (next left : ℕ) (shown : Bool) → load_formed (Taking next left shown) ≡ true → load_formed (one_taken (Taking next left shown)) ≡ true
+taken_formed : (next left : ℕ) (shown : Bool) → load_formed (taking next left shown) ≡ true → load_formed (one_taken (taking next left shown)) ≡ true
 taken_formed next left shown h = go (eqb left 1)
   where
-    go : (last : Bool) → load_formed (cond last NoLoad (Taking ((next + 1) % slot_count) (left - 1) shown)) ≡ true
+    go : (last : Bool) → load_formed (cond last None (taking ((next + 1) % slot_count) (left - 1) shown)) ≡ true
     go true = refl
     go false =
         let few = leb-true left slot_count (and_right (ltb next slot_count) (leb left slot_count) h) in
         rw (lt-ltb ((next + 1) % slot_count) slot_count (omega arith), le-leb (left - 1) slot_count (omega arith))
 
 -- a word that no load takes
-obeyed_formed : (load : Load) (word : ℕ) → load_formed load ≡ true → (is_replay word && bad_length word) ≡ false → load_formed (load_obeyed load word) ≡ true
+obeyed_formed : (load : Option Load) (word : ℕ) → load_formed load ≡ true → (is_replay word && bad_length word) ≡ false → load_formed (load_obeyed load word) ≡ true
 obeyed_formed load word formed fine = go (is_replay word) (is_load word) fine
   where
     go : (replay begins : Bool) → (replay && bad_length word) ≡ false → load_formed (cond (replay && begins) (load_by word) load) ≡ true
@@ -42,17 +42,17 @@ obeyed_formed load word formed fine = go (is_replay word) (is_load word) fine
     go true false h = formed
     go false begins h = formed
 
-word_formed : (load : Load) (word : ℕ) → load_formed load ≡ true → obeyed_badly load word ≡ false → load_formed (load_after load word) ≡ true
+word_formed : (load : Option Load) (word : ℕ) → load_formed load ≡ true → obeyed_badly load word ≡ false → load_formed (load_after load word) ≡ true
 unfolding load_after obeyed_badly
-word_formed NoLoad word formed fine = obeyed_formed NoLoad word formed fine
-word_formed (Taking next left shown) word formed fine = go (ltb 0 left) fine
+word_formed None word formed fine = obeyed_formed None word formed fine
+word_formed (Some load) word formed fine = go (ltb 0 load.left) fine
   where
     go : (on : Bool) → (is_replay word && (not on && bad_length word)) ≡ false →
-        load_formed (cond on (one_taken (Taking next left shown)) (load_obeyed (Taking next left shown) word)) ≡ true
-    go true h = taken_formed next left shown formed
-    go false h = obeyed_formed (Taking next left shown) word formed h
+        load_formed (cond on (one_taken (Some load)) (load_obeyed (Some load) word)) ≡ true
+    go true h = taken_formed load.next load.left load.shown formed
+    go false h = obeyed_formed (Some load) word formed h
 
-words_formed : (load : Load) (l : List ℕ) → load_formed load ≡ true → any_obeyed_badly load l ≡ false → load_formed (loads_after load l) ≡ true
+words_formed : (load : Option Load) (l : List ℕ) → load_formed load ≡ true → any_obeyed_badly load l ≡ false → load_formed (loads_after load l) ≡ true
 unfolding any_obeyed_badly loads_after
 words_formed load [] formed fine = formed
 words_formed load (word ∷ l) formed fine =
@@ -60,7 +60,7 @@ words_formed load (word ∷ l) formed fine =
     words_formed (load_after load word) l (word_formed load word formed n.0) n.1
 
 -- in a sound stream no bad REPLAY is obeyed
-sound_words : (m : List ℕ) (high : ℕ) (load : Load) (l : List ℕ) → fault_of m high load l ≡ accepted tt → any_obeyed_badly load (stream_of m high l).words ≡ false
+sound_words : (m : List ℕ) (high : ℕ) (load : Option Load) (l : List ℕ) → fault_of m high load l ≡ accepted tt → any_obeyed_badly load (stream_of m high l).words ≡ false
 unfolding stream_of any_obeyed_badly
 sound_words m high load [] sound = refl
 sound_words m high load (word ∷ l) sound =

@@ -1,6 +1,7 @@
 -- A stream in pieces is the stream.
 use Prim.Native.Nat.{ℕ, ◌≤◌}
 use mathlib.Core.List.{List, [], ◌∷◌, ◌++◌}
+use Rattle.std.specs.Prelude.{Option}
 use mathlib.Core.Path.{◌≡◌, refl, sym, ap, ◌∙◌}
 use native.Mathlib.Omega.{arith}
 use lib.Dec.{eqb, leb}
@@ -32,7 +33,7 @@ cut m c first second =
     rw (stream_cut m c.high_mask first second, play_append (buffer c.slots c.load) mops.words (stream_of m mops.high second).words)
 
 -- after a sound part the rest decides
-fault_append : (m : List ℕ) (high : ℕ) (load : Load) (x y : List ℕ) → fault_of m high load x ≡ accepted tt →
+fault_append : (m : List ℕ) (high : ℕ) (load : Option Load) (x y : List ℕ) → fault_of m high load x ≡ accepted tt →
     fault_of m high load (x ++ y) ≡ fault_of m (stream_of m high x).high (loads_after load (stream_of m high x).words) y
 unfolding fault_of stream_of loads_after
 fault_append m high load [] y sound = refl

@@ -2,6 +2,7 @@
 use Prim.Native.Nat.{ℕ, ◌+◌, ◌-◌, ◌%◌, ◌≤◌, ◌<◌}
 use mathlib.Core.Bool.{Bool, true, false}
 use mathlib.Core.List.{List, [], ◌∷◌, ◌++◌, append-nil}
+use Rattle.std.specs.Prelude.{Option, None}
 use mathlib.Core.Path.{◌≡◌, refl, sym, ap, ◌∙◌}
 use native.Mathlib.Nat.{mod-eq_of_lt}
 use native.Mathlib.Omega.{arith}
@@ -10,10 +11,9 @@ use lib.Seq.{get_or-set_same, get_or-set_other}
 use borrow.Author.Tests.{lt-ltb, ne_eqb}
 use Rattle.expander_rules.specs.Sizes.{slot_count}
 use Rattle.expander_rules.specs.Templates.{words_if}
-use Rattle.expander_rules.specs.Replay.{start_of, length_of, runs_while_loading, load_by, load_after, slots_from, buffer, written_obeyed, written, slots_after, Played, played, played_then, play_words}
+use Rattle.expander_rules.specs.Replay.{start_of, length_of, runs_while_loading, taking, load_by, load_after, slots_from, buffer, written_obeyed, written, slots_after, Played, played, played_then, play_words}
 use Rattle.expander_rules.specs.Promises.{LoadsPlayBack}
 use Rattle.expander_rules.specs.declared.Load.{Load}
-use Rattle.expander_rules.specs.declared.Load.TheVariants.{NoLoad, Taking}
 use Rattle.expander_rules.proofs.ReplayLaws.{play_append}
 
 -- the slots with words stored from slot i on
@@ -27,34 +27,34 @@ words_if_lem false word l = refl
 
 -- a load takes a word that others follow, and its last
 module _ (slots : List ℕ) (i left : ℕ) (shown : Bool) (word : ℕ) (l : List ℕ) where
-  abbrev takes : Load → Played
+  abbrev takes : Option Load → Played
   takes on =
       let held = buffer (set slots (i % slot_count) word) on in
       played_then (played (words_if shown (word ∷ [])) held) (play_words held l)
 
-  one_of_more : 1 < left → play_words (buffer slots (Taking i left shown)) (word ∷ l) ≡ takes (Taking ((i + 1) % slot_count) (left - 1) shown)
+  one_of_more : 1 < left → play_words (buffer slots (taking i left shown)) (word ∷ l) ≡ takes (taking ((i + 1) % slot_count) (left - 1) shown)
   unfolding play_words written slots_after load_after
   one_of_more h = rw (lt-ltb 0 left (omega arith), ne_eqb left 1 (λ e. omega arith))
 
-  the_last : left ≡ 1 → play_words (buffer slots (Taking i left shown)) (word ∷ l) ≡ takes NoLoad
+  the_last : left ≡ 1 → play_words (buffer slots (taking i left shown)) (word ∷ l) ≡ takes None
   unfolding play_words written slots_after load_after
   the_last h = rw h
 
 -- a load takes its words, and is over with the last
 loaded : (slots : List ℕ) (i left : ℕ) (shown : Bool) (l : List ℕ) → length l ≡ left → 0 < left →
-    play_words (buffer slots (Taking i left shown)) l ≡ played (words_if shown l) (buffer (stored slots i l) NoLoad)
+    play_words (buffer slots (taking i left shown)) l ≡ played (words_if shown l) (buffer (stored slots i l) None)
 unfolding play_words stored
 loaded slots i left shown [] h k = absurd (omega arith)
 loaded slots i left shown (word ∷ []) h k =
     the_last slots i left shown word [] (omega arith)
-    ∙ ap (λ (x : List ℕ). played x (buffer (set slots (i % slot_count) word) NoLoad)) (append-nil (words_if shown (word ∷ [])))
+    ∙ ap (λ (x : List ℕ). played x (buffer (set slots (i % slot_count) word) None)) (append-nil (words_if shown (word ∷ [])))
 loaded slots i left shown (word ∷ (next ∷ l)) h k =
     let on = set slots (i % slot_count) word in
-    let after = Taking ((i + 1) % slot_count) (left - 1) shown in
+    let after = taking ((i + 1) % slot_count) (left - 1) shown in
     one_of_more slots i left shown word (next ∷ l) (omega arith)
     ∙ ap (λ (p : Played). played_then (played (words_if shown (word ∷ [])) (buffer on after)) p)
     (loaded on ((i + 1) % slot_count) (left - 1) shown (next ∷ l) (omega arith) (omega arith))
-    ∙ ap (λ (x : List ℕ). played x (buffer (stored on ((i + 1) % slot_count) (next ∷ l)) NoLoad)) (words_if_lem shown word (next ∷ l))
+    ∙ ap (λ (x : List ℕ). played x (buffer (stored on ((i + 1) % slot_count) (next ∷ l)) None)) (words_if_lem shown word (next ∷ l))
 
 -- a slot that comes d slots after slot i is left as it was by as many words at most
 untouched : (slots : List ℕ) (i k d : ℕ) (l : List ℕ) → i < slot_count → k < slot_count → (i + d) % slot_count ≡ k → length l ≤ d → d < slot_count →

@@ -2,6 +2,7 @@
 use Prim.Native.Nat.{ℕ, zero, suc, ◌+◌, ◌-◌, ◌%◌, ◌≤◌, ◌<◌}
 use mathlib.Core.Bool.{Bool, true, false, cond, not, ◌||◌}
 use mathlib.Core.List.{List, [], ◌∷◌, ◌++◌, append_assoc}
+use Rattle.std.specs.Prelude.{Option}
 use mathlib.Core.Path.{◌≡◌, refl, sym, ap, ◌∙◌}
 use native.Mathlib.Omega.{arith}
 use lib.ListN.{length, get_or, length-append, length-set}
@@ -25,19 +26,19 @@ play_append b (word ∷ x) y =
     let second = play_words first.buffer y in
     rw (play_append w.buffer x y) (ap (λ (l : List ℕ). played l second.buffer) (sym (append_assoc w.words first.words second.words)))
 
-pub loads_append : (load : Load) (x y : List ℕ) → loads_after load (x ++ y) ≡ loads_after (loads_after load x) y
+pub loads_append : (load : Option Load) (x y : List ℕ) → loads_after load (x ++ y) ≡ loads_after (loads_after load x) y
 unfolding loads_after
 loads_append load [] y = refl
 loads_append load (word ∷ x) y = loads_append (load_after load word) x y
 
-pub bad_append : (load : Load) (x y : List ℕ) → any_obeyed_badly load (x ++ y) ≡ (any_obeyed_badly load x || any_obeyed_badly (loads_after load x) y)
+pub bad_append : (load : Option Load) (x y : List ℕ) → any_obeyed_badly load (x ++ y) ≡ (any_obeyed_badly load x || any_obeyed_badly (loads_after load x) y)
 unfolding any_obeyed_badly loads_after
 bad_append load [] y = refl
 bad_append load (word ∷ x) y =
     let on = load_after load word in
     rw (bad_append on x y) (or_assoc (obeyed_badly load word) (any_obeyed_badly on x) (any_obeyed_badly (loads_after on x) y))
 
-pub count_append : (load : Load) (x y : List ℕ) → played_count load (x ++ y) ≡ played_count load x + played_count (loads_after load x) y
+pub count_append : (load : Option Load) (x y : List ℕ) → played_count load (x ++ y) ≡ played_count load x + played_count (loads_after load x) y
 unfolding played_count loads_after
 count_append load [] y = omega arith
 count_append load (word ∷ x) y = omega (arith, count_append (load_after load word) x y)
@@ -99,18 +100,18 @@ plain_words b (word ∷ l) off none =
     ap (λ (p : Played). played_then p (play_words p.buffer l)) (plain_word b word off n.0)
     ∙ ap (λ (p : Played). played_then (played (word ∷ []) b) p) (plain_words b l off n.1)
 
-module _ (load : Load) (l : List ℕ) (off : is_loading load ≡ false) (none : any_replay l ≡ false) where
+module _ (load : Option Load) (l : List ℕ) (off : is_loading load ≡ false) (none : any_replay l ≡ false) where
   pub plain_loads : loads_after load l ≡ load
   plain_loads = sym (play_load (buffer [] load) l) ∙ ap (λ (p : Played). p.buffer.load) (plain_words (buffer [] load) l off none)
 
   pub plain_count : played_count load l ≡ length l
   plain_count = sym (play_long (buffer [] load) l) ∙ ap (λ (p : Played). length p.words) (plain_words (buffer [] load) l off none)
 
-not_replay : (load : Load) (word : ℕ) → is_replay word ≡ false → obeyed_badly load word ≡ false
+not_replay : (load : Option Load) (word : ℕ) → is_replay word ≡ false → obeyed_badly load word ≡ false
 unfolding obeyed_badly
 not_replay load word h = rw h
 
-pub plain_fine : (load : Load) (l : List ℕ) → any_replay l ≡ false → any_obeyed_badly load l ≡ false
+pub plain_fine : (load : Option Load) (l : List ℕ) → any_replay l ≡ false → any_obeyed_badly load l ≡ false
 unfolding any_obeyed_badly any_word
 plain_fine load [] none = refl
 plain_fine load (word ∷ l) none =

@@ -3,7 +3,7 @@ use Prim.Native.Nat.{ℕ, zero, suc, ◌+◌, ◌*◌, ◌-◌, ◌/◌, ◌%◌
 use mathlib.Core.Bool.{Bool, true, false, ◌&&◌}
 use mathlib.Core.List.{List, [], ◌∷◌, ◌++◌}
 use mathlib.Core.Path.{◌≡◌, refl, ap, ◌∙◌}
-use native.Mathlib.Nat.{suc-mul, pow-suc, div-div-eq-div-mul, div-eq_of_lt, lt_of_lt_of_le, pow-le-pow_right, mul-le-mul_right, le_antisymm, div-one}
+use native.Mathlib.Nat.{suc-mul, pow-suc, div-div-eq-div-mul, div-eq_of_lt, lt_of_lt_of_le, pow-le-pow_right, mul-le-mul_right, le_antisymm}
 use native.Mathlib.Numerals.{add-one}
 use native.Mathlib.Omega.{arith}
 use lib.Dec.{eqb, ltb, lit<}
@@ -81,17 +81,6 @@ words_if_long : (bit : ℕ) (l : List ℕ) → bit < 2 → length (words_if (eqb
 words_if_long zero l h = omega arith
 words_if_long (suc zero) l h = omega arith
 words_if_long (suc (suc n)) l h = absurd (omega arith)
-
--- the parts of a round after its first word, by the tests that the code makes
-abbrev pub group_more : List ℕ → ℕ → ℕ → ℕ → List ℕ
-group_more m a b c = words_if (eqb (nth m 1 / 2 % 2) 1) (a ∷ b ∷ c ∷ [])
-
-abbrev pub group_last : List ℕ → ℕ → List ℕ
-group_last m last = words_if (eqb (nth m 1 % 2) 1) (last ∷ [])
-
-pub group_parts : (m : List ℕ) (first a b c last : ℕ) → group m first (a ∷ b ∷ c ∷ []) last ≡ (first ∷ []) ++ (group_more m a b c ++ group_last m last)
-unfolding group
-group_parts m first a b c last = rw (div-one (nth m 1))
 
 pub group_long : (m : List ℕ) (first a b c last : ℕ) → length (group m first (a ∷ b ∷ c ∷ []) last) ≡ group_count m
 unfolding group

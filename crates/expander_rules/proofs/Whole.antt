@@ -2,20 +2,20 @@
 use Prim.Native.Nat.{ℕ, zero, suc, ◌≤◌, ◌<◌}
 use mathlib.Core.Bool.{Bool, true, false, not}
 use mathlib.Core.List.{List, []}
+use Rattle.std.specs.Prelude.{Result, Ok, Err}
 use mathlib.Core.Path.{◌≡◌, refl, sym, ap}
 use native.Mathlib.Omega.{arith}
 use lib.Dec.{leb}
 use lib.ListN.{length, get_or, replicate}
 use borrow.Author.Tests.{leb-true}
 use Rattle.bits.proofs.Choices.{and_left}
-use Rattle.machine.specs.Answers.{Told, accepted, refused, provided}
+use Rattle.machine.specs.Answers.{Told, accepted, refused, told, provided}
 use Rattle.expander_rules.specs.Sizes.{slot_count, nop_word, needed_most}
 use Rattle.expander_rules.specs.Stream.{any_replay, stream_of}
 use Rattle.expander_rules.specs.Replay.{is_loading, buffer}
-use Rattle.expander_rules.specs.Call.{told_answer, answered, Expanding, expanding, expansion_of, bad_rounds, unless_refused, expand_check, expand_of, close_check, closed, close_of}
+use Rattle.expander_rules.specs.Call.{answered, Expanding, expanding, expansion_of, bad_rounds, unless_refused, expand_check, expand_of, close_check, closed, close_of}
 use Rattle.expander_rules.specs.Promises.{RefusedPieces, Stages, mop_expansion, mop_check, mop_call_of, PlainStreams, SlotsHandedBack, FreshExpander}
-use Rattle.expander_rules.specs.declared.Answer.{Answer}
-use Rattle.expander_rules.specs.declared.Answer.TheVariants.{Done, Refused}
+use Rattle.machine.specs.declared.refusal.Refusal.{Refusal}
 use Rattle.expander_rules.specs.declared.Carried.{Carried}
 use Rattle.expander_rules.proofs.ReplayLaws.{plain_words, slots_kept}
 use Rattle.expander_rules.proofs.Faults.{plain_fault}
@@ -69,8 +69,8 @@ pub fresh_expander : FreshExpander
 fresh_expander = record { mask = refl; count = refl; each = each_fresh slot_count; load = refl }
 
 -- what an accepted call has written fits
-pub answer_fits : (m : List ℕ) (c : Carried) (l out : List ℕ) (a : Answer) (after : Carried) (now : List ℕ) →
-    expanding (told_answer a) after now ≡ expand_of m c l out → answered a ≤ length out
-answer_fits m c l out (Done n) after now e =
+pub answer_fits : (m : List ℕ) (c : Carried) (l out : List ℕ) (a : Result ℕ Refusal) (after : Carried) (now : List ℕ) →
+    expanding (told a) after now ≡ expand_of m c l out → answered a ≤ length out
+answer_fits m c l out (Ok n) after now e =
     leb-true n (length out) (and_left (leb n (length out)) (leb n needed_most) (accepts m c l out n (sym (ap (λ (k : Expanding). k.answer) e))).enough)
-answer_fits m c l out (Refused r) after now e = omega arith
+answer_fits m c l out (Err r) after now e = omega arith

@@ -1,12 +1,13 @@
 -- Laws of words in a row, and of a test of any of them.
-use Prim.Native.Nat.{ℕ, ◌+◌, ◌-◌, ◌≤◌, ◌<◌}
+use Prim.Native.Nat.{ℕ, ◌+◌, ◌-◌, ◌<◌}
 use mathlib.Core.Bool.{Bool, true, false, ◌||◌}
 use mathlib.Core.List.{List, [], ◌∷◌, ◌++◌}
-use mathlib.Core.Path.{◌≡◌, refl, sym}
+use mathlib.Core.Path.{◌≡◌, refl, sym, ap}
 use native.Mathlib.Numerals.{add-one}
 use native.Mathlib.Omega.{arith}
-use lib.ListN.{length, get_or, take, drop, length-drop, drop_of_length-le, take-append-drop}
+use lib.ListN.{length, get_or, take, drop, length-drop, take-append-drop}
 use lib.Seq.{drop-cons, take_all, take_at}
+use Rattle.std.specs.List.{list_any}
 use Rattle.bits.specs.Overwrite.{over}
 use Rattle.expander_rules.specs.Stream.{any_word}
 
@@ -35,14 +36,11 @@ module _ (test : ℕ → Bool) where
   any_append [] y = refl
   any_append (word ∷ x) y = rw (any_append x y) (or_assoc (test word) (any_word test x) (any_word test y))
 
-  -- a turn of a loop that looks for one, and its end
-  pub any_next : (l : List ℕ) (i : ℕ) → i < length l → any_word test (drop i l) ≡ (test (get_or l i 0) || any_word test (drop (i + 1) l))
+  -- as the library tests a list
+  pub any_listed : (l : List ℕ) → list_any test l ≡ any_word test l
   unfolding any_word
-  any_next l i h = rw (words_next l i h)
-
-  pub any_end : (l : List ℕ) (i : ℕ) → length l ≤ i → any_word test (drop i l) ≡ false
-  unfolding any_word
-  any_end l i h = rw (drop_of_length-le l h)
+  any_listed [] = refl
+  any_listed (word ∷ l) = ap (λ (b : Bool). test word || b) (any_listed l)
 
   -- where none is
   pub none_nil : any_word test [] ≡ false

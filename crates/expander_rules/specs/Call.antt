@@ -1,29 +1,22 @@
 -- A call of the expander, for a piece of a stream, and the close after the last piece: the answer in the documents' numbers, what is
 -- carried, and the output afterwards.
-use Rattle.std.specs.Prelude.{ℕ, Bool, not, ◌&&◌, ◌||◌, List, [], ◌∷◌, eqb, leb, ltb, length}
+use Rattle.std.specs.Prelude.{ℕ, Bool, not, ◌&&◌, ◌||◌, Option, None, Result, Ok, Err, List, [], ◌∷◌, eqb, leb, ltb, length}
 use Rattle.bits.specs.Overwrite.{over}
-use Rattle.machine.specs.Answers.{Told, accepted, refused, refusal, provided}
+use Rattle.machine.specs.Answers.{Told, accepted, refused, provided}
 use Rattle.machine.specs.Sizes.{stream_most}
 use Rattle.expander_rules.specs.Sizes.{nine_count, rounds_most, needed_most}
 use Rattle.expander_rules.specs.Templates.{nth}
 use Rattle.expander_rules.specs.Stream.{is_template1, any_template1, emission_of, stream_of}
 use Rattle.expander_rules.specs.Replay.{buffer, play_words, loads_after, any_obeyed_badly}
 use Rattle.expander_rules.specs.State.{carry, load_formed}
-use Rattle.expander_rules.specs.declared.Answer.{Answer}
-use Rattle.expander_rules.specs.declared.Answer.TheVariants.{Done, Refused}
+use Rattle.machine.specs.declared.refusal.Refusal.{Refusal}
 use Rattle.expander_rules.specs.declared.Carried.{Carried}
 use Rattle.expander_rules.specs.declared.Load.{Load}
-use Rattle.expander_rules.specs.declared.Load.TheVariants.{NoLoad}
-
--- the count of words written, or the number that comes back with its values
-abbrev pub told_answer : Answer → Told ℕ
-told_answer (Done n) = accepted n
-told_answer (Refused r) = refusal r
 
 -- how many words it says were written
-abbrev pub answered : Answer → ℕ
-answered (Done n) = n
-answered (Refused r) = 0
+abbrev pub answered : Result ℕ Refusal → ℕ
+answered (Ok n) = n
+answered (Err r) = 0
 
 -- the answer, what is carried after the call, and the output
 pub record Expanding : Type 0 where
@@ -62,7 +55,7 @@ abbrev pub bad_rounds : List ℕ → List ℕ → Bool
 bad_rounds m l = over_rounds m && any_template1 l
 
 -- refusal 7 of a word, and refusal 13 of a REPLAY that leaves the MOP stage: "in one pass with 7, whichever word comes first"
-unfoldable pub fault_of : List ℕ → ℕ → Load → List ℕ → Told (Unit {0})
+unfoldable pub fault_of : List ℕ → ℕ → Option Load → List ℕ → Told (Unit {0})
 fault_of m high load [] = accepted tt
 fault_of m high load (word ∷ l) =
     let given = emission_of m high word in
@@ -104,7 +97,7 @@ abbrev pub close_check : Carried → Told (Unit {0})
 close_check c = provided (load_formed c.load) 10 (accepted tt)
 
 abbrev pub closed : Carried → Expanding
-closed c = expanding (accepted 0) (carry c.high_mask c.slots NoLoad) []
+closed c = expanding (accepted 0) (carry c.high_mask c.slots None) []
 
 unfoldable pub close_of : Carried → Expanding
 close_of c = if_accepted (close_check c) c [] (closed c)

@@ -1,12 +1,11 @@
 -- How many words leave the MOP stage, and how many are written out. No count depends on the high mask or on what the slots hold. These
 -- definitions serve internal contracts alone.
-use Rattle.std.specs.Prelude.{ℕ, ◌+◌, ◌*◌, min, cond, List, [], ◌∷◌}
+use Rattle.std.specs.Prelude.{ℕ, ◌+◌, ◌*◌, min, cond, Option, Some, None, List, [], ◌∷◌}
 use Rattle.bits.specs.Field.{field}
 use Rattle.expander_rules.specs.Templates.{nth}
 use Rattle.expander_rules.specs.Stream.{is_mop, is_mop_config, is_replay, of_template1}
 use Rattle.expander_rules.specs.Replay.{length_of, is_load, is_loading, is_shown, load_after}
 use Rattle.expander_rules.specs.declared.Load.{Load}
-use Rattle.expander_rules.specs.declared.Load.TheVariants.{NoLoad, Taking}
 
 -- a count that stops one past its limit
 abbrev pub capped : ℕ → ℕ → ℕ
@@ -31,17 +30,17 @@ stream_count m [] = 0
 stream_count m (word ∷ l) = emission_count m word + stream_count m l
 
 -- how many words a load takes
-abbrev pub words_left : Load → ℕ
-words_left NoLoad = 0
-words_left (Taking next left shown) = left
+abbrev pub words_left : Option Load → ℕ
+words_left None = 0
+words_left (Some load) = load.left
 
 -- what is written out for a word that no load takes, for any word, and for words in a row
 unfoldable pub obeyed_count : ℕ → ℕ
 obeyed_count word = cond (is_replay word) (cond (is_load word) 0 (length_of word)) 1
 
-unfoldable pub written_count : Load → ℕ → ℕ
+unfoldable pub written_count : Option Load → ℕ → ℕ
 written_count load word = cond (is_loading load) (cond (is_shown load) 1 0) (obeyed_count word)
 
-unfoldable pub played_count : Load → List ℕ → ℕ
+unfoldable pub played_count : Option Load → List ℕ → ℕ
 played_count load [] = 0
 played_count load (word ∷ l) = written_count load word + played_count (load_after load word) l

@@ -1,17 +1,16 @@
 -- What holds of the expander as a whole.
-use Rattle.std.specs.Prelude.{ℕ, ◌≤◌, ◌<◌, Bool, true, false, not, List, [], ◌∷◌, ◌++◌, ◌≡◌, length, get_or}
+use Rattle.std.specs.Prelude.{ℕ, ◌≤◌, ◌<◌, Bool, true, false, not, None, List, [], ◌∷◌, ◌++◌, ◌≡◌, length, get_or}
 use Rattle.bits.specs.Overwrite.{over}
 use Rattle.machine.specs.Answers.{Told, accepted, refused, provided}
 use Rattle.machine.specs.Sizes.{stream_most}
 use Rattle.expander_rules.specs.Sizes.{slot_count, needed_most}
 use Rattle.expander_rules.specs.Templates.{words_if}
 use Rattle.expander_rules.specs.Stream.{is_replay, any_replay, emission, stream_of}
-use Rattle.expander_rules.specs.Replay.{start_of, length_of, runs_while_loading, is_load, is_loading, Buffer, buffer, played, play_words}
+use Rattle.expander_rules.specs.Replay.{start_of, length_of, runs_while_loading, is_load, taking, is_loading, Buffer, buffer, played, play_words}
 use Rattle.expander_rules.specs.State.{carry, fresh_carried, load_formed}
 use Rattle.expander_rules.specs.Call.{Expanding, expanding, Expansion, expansion, expansion_of, right_lengths, bad_rounds, enough_room, if_accepted, done_with, expand_of, close_of}
 use Rattle.expander_rules.specs.Pieces.{Piece, joined_words, all_taken}
 use Rattle.expander_rules.specs.declared.Carried.{Carried}
-use Rattle.expander_rules.specs.declared.Load.TheVariants.{NoLoad, Taking}
 
 -- ---- the replay stage
 
@@ -66,7 +65,7 @@ pub record CarriesFormed : Type 0 where
   pub fresh : load_formed fresh_carried.load ≡ true
   pub piece : (m : List ℕ) (c : Carried) (l out : List ℕ) (n : ℕ) → (expand_of m c l out).answer ≡ accepted n → load_formed (expand_of m c l out).carried.load ≡ true
   pub close : (c : Carried) (n : ℕ) → (close_of c).answer ≡ accepted n → load_formed (close_of c).carried.load ≡ true
-  pub closes : (c : Carried) → load_formed c.load ≡ true → close_of c ≡ expanding (accepted 0) (carry c.high_mask c.slots NoLoad) []
+  pub closes : (c : Carried) → load_formed c.load ≡ true → close_of c ≡ expanding (accepted 0) (carry c.high_mask c.slots None) []
 
 -- a carried load with no words to come takes nothing: a call answers, writes and leaves mask and slots as if there were no load
 pub record SameButLoad (a b : Expanding) : Type 0 where
@@ -78,7 +77,7 @@ pub record SameButLoad (a b : Expanding) : Type 0 where
 abbrev pub EmptyLoads : Type 0
 EmptyLoads =
     (m : List ℕ) (high : ℕ) (s : List ℕ) (next : ℕ) (shown : Bool) (l out : List ℕ) → next < slot_count →
-    SameButLoad (expand_of m (carry high s (Taking next 0 shown)) l out) (expand_of m (carry high s NoLoad) l out)
+    SameButLoad (expand_of m (carry high s (taking next 0 shown)) l out) (expand_of m (carry high s None) l out)
 
 -- ---- a call
 
@@ -132,4 +131,4 @@ pub record FreshExpander : Type 0 where
   pub mask : fresh_carried.high_mask ≡ 0
   pub count : length fresh_carried.slots ≡ 32
   pub each : (i : ℕ) → i < 32 → get_or fresh_carried.slots i 0 ≡ 0x02000000
-  pub load : fresh_carried.load ≡ NoLoad
+  pub load : fresh_carried.load ≡ None

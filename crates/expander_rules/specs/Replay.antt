@@ -1,12 +1,11 @@
 -- The replay stage (document 02, K1): what becomes of the words that leave the MOP stage. A fold over them, with the slots and the
 -- load as its state.
-use Rattle.std.specs.Prelude.{ℕ, zero, suc, ◌+◌, ◌-◌, ◌%◌, Bool, false, cond, not, ◌&&◌, ◌||◌, List, [], ◌∷◌, ◌++◌, eqb, ltb, get_or, set}
+use Rattle.std.specs.Prelude.{ℕ, zero, suc, ◌+◌, ◌-◌, ◌%◌, Bool, false, cond, not, ◌&&◌, ◌||◌, Option, Some, None, List, [], ◌∷◌, ◌++◌, eqb, ltb, get_or, set}
 use Rattle.bits.specs.Field.{field, flag}
 use Rattle.expander_rules.specs.Sizes.{slot_count}
 use Rattle.expander_rules.specs.Templates.{words_if}
 use Rattle.expander_rules.specs.Stream.{is_replay}
 use Rattle.expander_rules.specs.declared.Load.{Load}
-use Rattle.expander_rules.specs.declared.Load.TheVariants.{NoLoad, Taking}
 
 -- REPLAY (opcode 04): start 14–18, length 4–9, run-while-loading 1, load 0
 abbrev pub start_of : ℕ → ℕ
@@ -21,35 +20,39 @@ runs_while_loading word = flag 1 word
 abbrev pub is_load : ℕ → Bool
 is_load word = flag 0 word
 
+-- a load that is on: the slot that takes the next word, the words to come, and whether they are written out too
+abbrev pub taking : ℕ → ℕ → Bool → Option Load
+taking next left shown = Some (record { next = next; left = left; shown = shown })
+
 -- whether a load takes the next word: one that has words to come
-abbrev pub is_loading : Load → Bool
-is_loading NoLoad = false
-is_loading (Taking next left shown) = ltb 0 left
+abbrev pub is_loading : Option Load → Bool
+is_loading None = false
+is_loading (Some load) = ltb 0 load.left
 
 -- the slot that takes the next word
-abbrev pub next_slot : Load → ℕ
-next_slot NoLoad = 0
-next_slot (Taking next left shown) = next % slot_count
+abbrev pub next_slot : Option Load → ℕ
+next_slot None = 0
+next_slot (Some load) = load.next % slot_count
 
 -- whether what is taken is written out too
-abbrev pub is_shown : Load → Bool
-is_shown NoLoad = false
-is_shown (Taking next left shown) = shown
+abbrev pub is_shown : Option Load → Bool
+is_shown None = false
+is_shown (Some load) = load.shown
 
 -- "start onward, wrapping after slot 31"; with its last word a load is over
-abbrev pub one_taken : Load → Load
-one_taken NoLoad = NoLoad
-one_taken (Taking next left shown) = cond (eqb left 1) NoLoad (Taking ((next + 1) % slot_count) (left - 1) shown)
+abbrev pub one_taken : Option Load → Option Load
+one_taken None = None
+one_taken (Some load) = cond (eqb load.left 1) None (taking ((load.next + 1) % slot_count) (load.left - 1) load.shown)
 
 -- the load that a REPLAY with bit 0 begins
-abbrev pub load_by : ℕ → Load
-load_by word = Taking (start_of word) (length_of word) (runs_while_loading word)
+abbrev pub load_by : ℕ → Option Load
+load_by word = taking (start_of word) (length_of word) (runs_while_loading word)
 
 -- what a word that no load takes makes of the load, and what any word does: "A REPLAY word met while loading is stored and not obeyed"
-abbrev pub load_obeyed : Load → ℕ → Load
+abbrev pub load_obeyed : Option Load → ℕ → Option Load
 load_obeyed load word = cond (is_replay word && is_load word) (load_by word) load
 
-unfoldable pub load_after : Load → ℕ → Load
+unfoldable pub load_after : Option Load → ℕ → Option Load
 load_after load word = cond (is_loading load) (one_taken load) (load_obeyed load word)
 
 -- n slots, the first of which is slot i
@@ -59,9 +62,9 @@ slots_from slots i (suc n) = get_or slots i 0 ∷ slots_from slots ((i + 1) % sl
 
 pub record Buffer : Type 0 where
   pub slots : List ℕ
-  pub load : Load
+  pub load : Option Load
 
-abbrev pub buffer : List ℕ → Load → Buffer
+abbrev pub buffer : List ℕ → Option Load → Buffer
 buffer s load = record { slots = s; load = load }
 
 -- what is written out for a word that no load takes: the slots of a REPLAY without load, nothing for one with it, any other word
@@ -97,7 +100,7 @@ play_words b [] = played [] b
 play_words b (word ∷ l) = played_then (play_word b word) (play_words (play_word b word).buffer l)
 
 -- the load after all of them
-unfoldable pub loads_after : Load → List ℕ → Load
+unfoldable pub loads_after : Option Load → List ℕ → Option Load
 loads_after load [] = load
 loads_after load (word ∷ l) = loads_after (load_after load word) l
 
@@ -105,9 +108,9 @@ loads_after load (word ∷ l) = loads_after (load_after load word) l
 abbrev pub bad_length : ℕ → Bool
 bad_length word = eqb (length_of word) 0 || ltb slot_count (length_of word)
 
-unfoldable pub obeyed_badly : Load → ℕ → Bool
+unfoldable pub obeyed_badly : Option Load → ℕ → Bool
 obeyed_badly load word = is_replay word && (not (is_loading load) && bad_length word)
 
-unfoldable pub any_obeyed_badly : Load → List ℕ → Bool
+unfoldable pub any_obeyed_badly : Option Load → List ℕ → Bool
 any_obeyed_badly load [] = false
 any_obeyed_badly load (word ∷ l) = obeyed_badly load word || any_obeyed_badly (load_after load word) l

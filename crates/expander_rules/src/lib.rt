@@ -9,32 +9,27 @@ use machine::refusal::Refusal;
 
 pub mod sizes;
 
-// A load: the words to come that slots take. None, or the slot for the next word, how many words are to come, and whether they are
-// written out too.
-#[derive(Clone, Copy)]
-pub enum Load {
-    NoLoad,
-    Taking { next: u32, left: u32, shown: bool },
+// A load, the words to come that slots take: the slot for the next word, how many words are to come, and whether they are written out
+// too.
+#[derive(Clone, Copy, Debug, PartialEq, Eq)]
+pub struct Load {
+    pub next: u32,
+    pub left: u32,
+    pub shown: bool,
 }
 
 // What a thread's expander carries from one piece of its stream to the next: the high mask, and slots and load of the replay stage.
-#[derive(Clone, Copy)]
+#[derive(Clone, Copy, Debug, PartialEq, Eq)]
 pub struct Carried {
     pub high_mask: u16,
     pub slots: [u32; SLOTS],
-    pub load: Load,
+    pub load: Option<Load>,
 }
 
-#[derive(Clone, Copy)]
-pub enum Answer {
-    // how many words were written
-    Done(usize),
-    Refused(Refusal),
-}
-
-#[derive(Clone, Copy)]
+// How many words were written, or why the call is refused, and what is carried after it.
+#[derive(Clone, Copy, Debug, PartialEq, Eq)]
 pub struct Expanded {
-    pub answer: Answer,
+    pub answer: Result<usize, Refusal>,
     pub carried: Carried,
 }
 

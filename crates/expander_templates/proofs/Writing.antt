@@ -1,18 +1,12 @@
 -- Laws of a list that is written part by part.
 use Prim.Native.Nat.{ℕ, ◌+◌, ◌≤◌}
-use mathlib.Core.List.{List, [], ◌∷◌, ◌++◌, append-nil}
+use mathlib.Core.List.{List, [], ◌++◌, append-nil}
 use mathlib.Core.Path.{◌≡◌, refl, sym, ap, ◌∙◌}
 use native.Mathlib.Nat.{add-zero}
 use native.Mathlib.Omega.{arith}
-use lib.ListN.{length, set, length-append}
+use lib.ListN.{length, length-append}
 use Rattle.bits.specs.Overwrite.{over, Wrote}
-use Rattle.bits.proofs.Overwrite.{over_long, over_over, over_set, over_none}
-
--- two stores side by side
-pub pair_set : {A : Type 0} (l : List A) (at : ℕ) (a b : A) → at + 2 ≤ length l → set (set l at a) (at + 1) b ≡ over l at (a ∷ b ∷ [])
-pair_set l at a b h =
-    let n = over_long l at (a ∷ []) (omega arith) in
-    rw (over_set l at a (omega arith), over_set (over l at (a ∷ [])) (at + 1) b (omega arith)) (over_over l at (a ∷ []) (b ∷ []) (omega arith))
+use Rattle.bits.proofs.Overwrite.{over_long, over_over, over_none}
 
 -- nothing is to be written
 pub wrote_none : {A : Type 0} (o : List A) (at : ℕ) → Wrote o at [] o at

@@ -2,6 +2,5 @@
 #![tactic(auto)]
 
 pub mod count;
-pub mod put;
 pub mod template_0;
 pub mod template_1;

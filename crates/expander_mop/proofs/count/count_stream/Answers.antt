@@ -5,14 +5,14 @@ use Rattle.expander_mop.proofs.count.count_stream.Goals as goal
 pub returns-then-limit-n : goal.returns-then-limit-n
 returns-then-limit-n c =
     let a = c.args in
-    omega (arith, count_next a.nine.now a.input.now c.loop-i.i c.loop-i-test.true, c.count_emission-n.ensures)
+    omega (arith, count_next a.nine.now a.input.now c.loop-word.word-index c.loop-word-test.true, c.count_emission-n.ensures)
 
-pub loop-i-preserved : goal.loop-i-preserved
-loop-i-preserved c =
+pub loop-word-preserved : goal.loop-word-preserved
+loop-word-preserved c =
     let a = c.args in
-    omega (arith, count_next a.nine.now a.input.now c.loop-i.i c.loop-i-test.true, c.count_emission-n.ensures)
+    omega (arith, count_next a.nine.now a.input.now c.loop-word.word-index c.loop-word-test.true, c.count_emission-n.ensures)
 
 pub returns : goal.returns
 returns c =
     let a = c.args in
-    omega (arith, count_end a.nine.now a.input.now c.loop-i.i c.loop-i-test.false)
+    omega (arith, count_end a.nine.now a.input.now c.loop-word.word-index c.loop-word-test.false)

@@ -10,7 +10,7 @@ returns c =
     let o = c.outer.o in
     let e = outer_count a.inner in
     elim c.outer-test.branch [
-      | else-outer-test w ↦ omega (arith, rounds_over o a.outer e c.outer.invariant.2 w.outer-test.false)
+      | else-outer-test w ↦ omega (arith, rounds_over o a.outer e c.outer.auto.o-end w.outer-test.false)
       | then-outer-test+then-loop-j-test+then-limit-n w ↦ omega (arith, round_within o a.outer e w.outer-test.true)
       | then-outer-test+else-loop-j-test+then-limit-n-2 w ↦ omega (arith, round_within o a.outer e w.outer-test.true)
     ]

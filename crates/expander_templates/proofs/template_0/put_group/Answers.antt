@@ -1,37 +1,26 @@
-use mathlib.Core.List.{[], ◌∷◌}
-use Rattle.expander_rules.specs.Templates.{group}
-use Rattle.expander_rules.proofs.Rounds.{group_more, group_last, group_parts}
-use Rattle.expander_templates.proofs.Writing.{Three, first_fits, second_fits, third_fits, wrote_three}
+use Prim.Native.Nat.{ℕ, ◌+◌, ◌≤◌}
+use mathlib.Core.Bool.{Bool}
+use mathlib.Core.List.{List, [], ◌∷◌}
+use mathlib.Core.Path.{◌≡◌, refl}
+use lib.ListN.{length}
+use Rattle.bits.specs.Field.{flag}
+use Rattle.expander_rules.specs.Templates.{nth, words_if, group}
+use Rattle.expander_templates.proofs.Writing.{Three, second_fits, third_fits, wrote_three, first_fits}
 use Rattle.expander_templates.proofs.template_0.put_group.Goals as goal
 
-pub put_word-p-requires : goal.put_word-p-requires
-put_word-p-requires c =
-    let three : (let a = c.args in
-    let m = a.nine.now in
-    let g = a.g in
-    Three a.out.now a.at (group m g.first (g.a ∷ g.b ∷ g.c ∷ []) g.last) (g.first ∷ []) (group_more m g.a g.b g.c) (group_last m g.last)) = record { in_three = group_parts _ _ _ _ _ _; all_fit = c.requires.1 } in
-    first_fits three
+parts : (m : List ℕ) (first : ℕ) (more : List ℕ) (last at : ℕ) (out : List ℕ) (three one : Bool) → three ≡ flag 1 (nth m 1) → one ≡ flag 0 (nth m 1) →
+    at + length (group m first more last) ≤ length out → Three out at (group m first more last) (first ∷ []) (words_if three more) (words_if one (last ∷ []))
+unfolding group
+parts m first more last at out three one p q h = record { in_three = rw (p, q); all_fit = h }
 
-pub put_three-q-requires : goal.put_three-q-requires
-put_three-q-requires c =
-    let three : (let a = c.args in
-    let m = a.nine.now in
-    let g = a.g in
-    Three a.out.now a.at (group m g.first (g.a ∷ g.b ∷ g.c ∷ []) g.last) (g.first ∷ []) (group_more m g.a g.b g.c) (group_last m g.last)) = record { in_three = group_parts _ _ _ _ _ _; all_fit = c.requires.1 } in
-    second_fits three c.put_word-p.ensures
+pub put_one-p-requires : goal.put_one-p-requires
+put_one-p-requires c = first_fits (parts _ _ _ _ _ _ _ _ refl refl c.requires)
 
-pub put_one-requires : goal.put_one-requires
-put_one-requires c =
-    let three : (let a = c.args in
-    let m = a.nine.now in
-    let g = a.g in
-    Three a.out.now a.at (group m g.first (g.a ∷ g.b ∷ g.c ∷ []) g.last) (g.first ∷ []) (group_more m g.a g.b g.c) (group_last m g.last)) = record { in_three = group_parts _ _ _ _ _ _; all_fit = c.requires.1 } in
-    third_fits three c.put_word-p.ensures c.put_three-q.ensures
+pub put_if-q-requires : goal.put_if-q-requires
+put_if-q-requires c = second_fits (parts _ _ _ _ _ _ _ _ c.flag.ensures refl c.requires) c.put_one-p.ensures
+
+pub put_if-requires : goal.put_if-requires
+put_if-requires c = third_fits (parts _ _ _ _ _ _ _ _ c.flag.ensures c.flag-2.ensures c.requires) c.put_one-p.ensures c.put_if-q.ensures
 
 pub returns : goal.returns
-returns c =
-    let three : (let a = c.args in
-    let m = a.nine.now in
-    let g = a.g in
-    Three a.out.now a.at (group m g.first (g.a ∷ g.b ∷ g.c ∷ []) g.last) (g.first ∷ []) (group_more m g.a g.b g.c) (group_last m g.last)) = record { in_three = group_parts _ _ _ _ _ _; all_fit = c.requires.1 } in
-    wrote_three three c.put_word-p.ensures c.put_three-q.ensures c.put_one.ensures
+returns c = wrote_three (parts _ _ _ _ _ _ _ _ c.flag.ensures c.flag-2.ensures c.requires) c.put_one-p.ensures c.put_if-q.ensures c.put_if.ensures

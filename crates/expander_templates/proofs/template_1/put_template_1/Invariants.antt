@@ -1,10 +1,7 @@
-use Prim.Native.Nat.{◌-◌, ◌≤◌}
+use Prim.Native.Nat.{◌-◌}
 use Rattle.expander_rules.specs.Templates.{nth, rounds, outer_round, template1}
 use Rattle.expander_templates.proofs.Writing.{Left}
 use Rattle.expander_templates.proofs.template_1.put_template_1.Given as goal
 
 abbrev pub invariant-loop-o : goal.invariant-loop-o
-invariant-loop-o l = (l.o ≤ l.count) × Left l.initial.out l.at (template1 l.nine) l.out l.p (rounds (outer_round l.nine) l.o (nth l.nine 0 - l.o))
-
-abbrev pub decreases-loop-o : goal.decreases-loop-o
-decreases-loop-o l = l.count - l.o
+invariant-loop-o l = Left l.initial.out l.at (template1 l.nine) l.out l.p (rounds (outer_round l.nine) l.o (nth l.nine 0 - l.o))
