@@ -5,12 +5,21 @@
 ghost use Rattle.std.specs.Prelude.{◌≡◌, ◌+◌};
 
 use format::number::read;
+use format::run::read_run;
 use program_io::read_full;
 use std::io;
 
 #[derive(Clone, Copy)]
+pub enum Kind {
+    Run,
+    Save,
+    Load,
+    Expand,
+}
+
+#[derive(Clone, Copy)]
 pub struct Job {
-    pub kind: u32,
+    pub kind: Kind,
     pub times: u32,
     pub seed: u32,
     pub limit: u32,
@@ -19,14 +28,11 @@ pub struct Job {
     pub n2: u32,
 }
 
-// What is printed of a job: its first two, three or four numbers; none where it was not done.
+// What is printed of a job: of an image two numbers, of words that ran or were expanded four.
 #[derive(Clone, Copy)]
-pub struct Line {
-    pub count: u32,
-    pub first: u32,
-    pub second: u32,
-    pub third: u32,
-    pub fourth: u32,
+pub enum Line {
+    OfImage([u32; 2]),
+    OfWords([u32; 4]),
 }
 
 // Three streams' words, and their bytes.
@@ -37,14 +43,25 @@ pub const BYTES_MOST: usize = 4 * WORDS_MOST;
 // A job is seven numbers of 4 bytes, and then its words.
 const JOB_BYTES: usize = 28;
 
-// Of a job that was not done.
-pub fn not_done() -> Line {
-    Line {
-        count: 0,
-        first: 0,
-        second: 0,
-        third: 0,
-        fourth: 0,
+impl Kind {
+    // By its number; none of any other.
+    fn of(n: u32) -> Option<Kind> {
+        match n {
+            1 => Some(Kind::Run),
+            2 => Some(Kind::Save),
+            3 => Some(Kind::Load),
+            4 => Some(Kind::Expand),
+            _ => None,
+        }
+    }
+
+    fn name(self) -> &'static [u8] {
+        match self {
+            Kind::Run => b"run",
+            Kind::Save => b"save",
+            Kind::Load => b"load",
+            Kind::Expand => b"expand",
+        }
     }
 }
 
@@ -55,29 +72,17 @@ pub fn words_of(j: Job) -> usize
     j.n0 as usize + j.n1 as usize + j.n2 as usize
 }
 
-// No job: one of no kind.
-fn no_job() -> Job {
-    Job {
-        kind: 0,
-        times: 0,
-        seed: 0,
-        limit: 0,
-        n0: 0,
-        n1: 0,
-        n2: 0,
-    }
-}
-
-fn job_in(bytes: &[u8; JOB_BYTES]) -> Job {
-    Job {
-        kind: read(bytes, 0, 4),
-        times: read(bytes, 4, 4),
-        seed: read(bytes, 8, 4),
-        limit: read(bytes, 12, 4),
-        n0: read(bytes, 16, 4),
-        n1: read(bytes, 20, 4),
-        n2: read(bytes, 24, 4),
-    }
+// None where the kind is none.
+fn job_in(bytes: &[u8; JOB_BYTES]) -> Option<Job> {
+    Some(Job {
+        kind: Kind::of(read::<4>(bytes, 0))?,
+        times: read::<4>(bytes, 4),
+        seed: read::<4>(bytes, 8),
+        limit: read::<4>(bytes, 12),
+        n0: read::<4>(bytes, 16),
+        n1: read::<4>(bytes, 20),
+        n2: read::<4>(bytes, 24),
+    })
 }
 
 // Fills the words from standard input, their bytes in the room lent; false where there is not room or input enough.
@@ -86,69 +91,82 @@ fn read_input(rt: &HostRuntime, room: &mut [u8], words: &mut [u32]) -> io::Resul
     if room.len() / 4 < n {
         return Ok(false);
     }
-    let got = read_full(&mut rt.stdin(), &mut room[..4 * n])?;
-    if got < 4 * n {
+    if read_full(&mut rt.stdin(), &mut room[..4 * n])? < 4 * n {
         return Ok(false);
     }
-    format::run::read_words(room, 0, 4, words);
+    read_run::<u32, 4>(room, 0, words);
     Ok(true)
 }
 
-// The job with its words in those lent; none where they are too many or not there.
-fn with_words(rt: &HostRuntime, j: Job, room: &mut [u8], words: &mut [u32]) -> io::Result<Job> {
-    let n = words_of(j);
-    if words.len() < n {
-        return Ok(no_job());
-    }
-    if !read_input(rt, room, &mut words[..n])? {
-        return Ok(no_job());
-    }
-    Ok(j)
-}
-
-// The next job of standard input, and its words; none where there is none.
-pub fn next_job(
+// The next job of standard input, and its words; none where there is none, or its words are too many or not there.
+fn next_job(
     rt: &HostRuntime,
     room: &mut [u8; BYTES_MOST],
     words: &mut [u32; WORDS_MOST],
-) -> io::Result<Job> {
+) -> io::Result<Option<Job>> {
     let mut record = [0u8; JOB_BYTES];
-    let got = read_full(&mut rt.stdin(), &mut record)?;
-    if got < JOB_BYTES {
-        return Ok(no_job());
+    if read_full(&mut rt.stdin(), &mut record)? < JOB_BYTES {
+        return Ok(None);
     }
-    with_words(rt, job_in(&record), room, words)
+    let Some(job) = job_in(&record) else {
+        return Ok(None);
+    };
+    let n = words_of(job);
+    if words.len() < n || !read_input(rt, room, &mut words[..n])? {
+        return Ok(None);
+    }
+    Ok(Some(job))
 }
 
-fn write_kind(rt: &HostRuntime, kind: u32) -> io::Result<()> {
-    match kind {
-        1 => rt.write_all(b"run"),
-        2 => rt.write_all(b"save"),
-        3 => rt.write_all(b"load"),
-        _ => rt.write_all(b"expand"),
+// The kind, and each number after a space.
+fn write_numbers(rt: &HostRuntime, kind: Kind, numbers: &[u32]) -> io::Result<()> {
+    rt.write_all(kind.name())?;
+    for n in numbers {
+        rt.write_all(b" ")?;
+        rt.print(*n as u64)?;
+    }
+    rt.write_all(b"\n")
+}
+
+fn write_line(rt: &HostRuntime, kind: Kind, line: Line) -> io::Result<()> {
+    match line {
+        Line::OfImage(numbers) => write_numbers(rt, kind, &numbers),
+        Line::OfWords(numbers) => write_numbers(rt, kind, &numbers),
     }
 }
 
-// A number, after a space.
-fn write_number(rt: &HostRuntime, n: u32) -> io::Result<()> {
-    rt.write_all(b" ")?;
-    rt.print(n as u64)
-}
-
-// Writes the line; false, and nothing is written, where the job was not done.
-pub fn write_line(rt: &HostRuntime, kind: u32, line: Line) -> io::Result<bool> {
-    if line.count == 0 {
+// Reads a job, does it and writes its line; whether there was one that was done.
+fn one_job<F: Fn(Job, &[u32]) -> Option<Line>>(
+    rt: &HostRuntime,
+    room: &mut [u8; BYTES_MOST],
+    words: &mut [u32; WORDS_MOST],
+    do_job: &F,
+) -> io::Result<bool>
+    requires { F.IsAlwaysCallable do_job.now }
+{
+    let Some(job) = next_job(rt, room, words)? else {
         return Ok(false);
-    }
-    write_kind(rt, kind)?;
-    write_number(rt, line.first)?;
-    write_number(rt, line.second)?;
-    if 2 < line.count {
-        write_number(rt, line.third)?;
-    }
-    if 3 < line.count {
-        write_number(rt, line.fourth)?;
-    }
-    rt.write_all(b"\n")?;
+    };
+    let Some(line) = do_job(job, words) else {
+        return Ok(false);
+    };
+    write_line(rt, job.kind, line)?;
     Ok(true)
+}
+
+// The jobs of standard input, up to the first that is not done. No input uses the turns up: they are what a proved loop counts down.
+pub fn all_jobs<F: Fn(Job, &[u32]) -> Option<Line>>(
+    rt: &HostRuntime,
+    room: &mut [u8; BYTES_MOST],
+    words: &mut [u32; WORDS_MOST],
+    do_job: F,
+) -> io::Result<()>
+    requires { F.IsAlwaysCallable do_job }
+{
+    for _ in 0..u32::MAX {
+        if !one_job(rt, room, words, &do_job)? {
+            break;
+        }
+    }
+    Ok(())
 }

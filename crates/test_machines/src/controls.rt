@@ -25,11 +25,9 @@ fn semaphores(x: u32) -> [Semaphore; SEMAPHORES] {
         maximum: 0,
     }; SEMAPHORES];
     let mut state = x;
-    let mut i: usize = 0;
-    while i < SEMAPHORES {
-        all[i] = semaphore(state);
-        state = next_state(next_state(state));
-        i += 1;
+    for s in &mut all {
+        *s = semaphore(state);
+        state = state_after(state, 2);
     }
     all
 }

@@ -3,19 +3,17 @@ use crate::sums::{
     Sums, add_byte, add_bytes, add_half, add_halves, add_marks, add_words, checksum, start,
 };
 use machine::control::{Control, Semaphore, Wait};
+use machine::lent::MachineView;
 use machine::sizes::SEMAPHORES;
 
 fn add_semaphore(s: Sums, x: Semaphore) -> Sums {
     add_byte(add_byte(s, x.value), x.maximum)
 }
 
-fn add_semaphores(s: Sums, all: [Semaphore; SEMAPHORES]) -> Sums {
+fn add_semaphores(s: Sums, all: &[Semaphore; SEMAPHORES]) -> Sums {
     let mut t = s;
-    let mut i: usize = 0;
-    while i < SEMAPHORES {
-        let x = all[i];
-        t = add_semaphore(t, x);
-        i += 1;
+    for x in all {
+        t = add_semaphore(t, *x);
     }
     t
 }
@@ -37,60 +35,19 @@ fn add_wait(s: Sums, w: Wait) -> Sums {
 }
 
 fn add_waits(s: Sums, c: Control) -> Sums {
-    let t0 = c.t0;
-    let t1 = c.t1;
-    let t2 = c.t2;
-    let w0 = t0.wait;
-    let w1 = t1.wait;
-    let w2 = t2.wait;
-    add_wait(add_wait(add_wait(s, w0), w1), w2)
-}
-
-fn add_banks(s: Sums, c: Control) -> Sums {
-    let owners = c.owners;
-    let pointers = c.pointers;
-    let a = add_bytes(s, &owners);
-    add_bytes(a, &pointers)
+    add_wait(add_wait(add_wait(s, c.t0.wait), c.t1.wait), c.t2.wait)
 }
 
 fn add_control(s: Sums, c: Control) -> Sums {
-    let mutexes = c.mutexes;
-    let semaphores = c.semaphores;
-    let a = add_bytes(s, &mutexes);
-    let b = add_semaphores(a, semaphores);
-    add_banks(add_waits(b, c), c)
-}
-
-fn add_stores(
-    s: Sums,
-    gprs: &[u32],
-    config: &[u32],
-    dest: &[u16],
-    marks: &[bool],
-    src_a: &[u32],
-    src_b: &[u32],
-) -> Sums {
-    let a = add_words(s, gprs);
-    let b = add_words(a, config);
-    let c = add_halves(b, dest);
-    let d = add_marks(c, marks);
-    let e = add_words(d, src_a);
-    add_words(e, src_b)
+    let a = add_semaphores(add_bytes(s, &c.mutexes), &c.semaphores);
+    let b = add_waits(a, c);
+    add_bytes(add_bytes(b, &c.owners), &c.pointers)
 }
 
 // The digest of a machine, of whatever sizes and numbers.
-pub fn digest_lent(
-    control: Control,
-    settings: &[u16],
-    gprs: &[u32],
-    config: &[u32],
-    dest: &[u16],
-    marks: &[bool],
-    src_a: &[u32],
-    src_b: &[u32],
-) -> u32 {
-    let s = add_halves(start(), settings);
-    let c = add_control(s, control);
-    let k = add_stores(c, gprs, config, dest, marks, src_a, src_b);
-    checksum(k)
+pub fn digest_lent(m: MachineView<'_>) -> u32 {
+    let a = add_control(add_halves(start(), m.settings), m.control);
+    let b = add_words(add_words(a, m.gprs), m.config);
+    let c = add_marks(add_halves(b, m.dest), m.marks);
+    checksum(add_words(add_words(c, m.src_a), m.src_b))
 }

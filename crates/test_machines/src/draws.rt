@@ -9,10 +9,8 @@ pub fn next_state(x: u32) -> u32 {
 // The state after `n` draws.
 pub fn state_after(x: u32, n: usize) -> u32 {
     let mut state = x;
-    let mut left = n;
-    while 0 < left {
+    for _ in 0..n {
         state = next_state(state);
-        left -= 1;
     }
     state
 }

@@ -16,29 +16,27 @@ pub struct Lengths {
     pub src_b: usize,
 }
 
-fn lent_length(m: Made, part: u32, size: usize) -> usize {
-    if m.part == part {
-        return m.length as usize;
-    }
-    size
-}
-
 // Each part at the machine's size, but for the one that has a length of its own.
 pub fn lent_lengths(m: Made) -> Lengths {
-    Lengths {
-        settings: lent_length(m, 1, SETTINGS),
-        gprs: lent_length(m, 2, GPRS),
-        config: lent_length(m, 3, CONFIG_WORDS),
-        dest: lent_length(m, 4, DEST_CELLS),
-        marks: lent_length(m, 5, DEST_ROWS),
-        src_a: lent_length(m, 6, SOURCE_CELLS),
-        src_b: lent_length(m, 7, SOURCE_CELLS),
+    let mut n = Lengths {
+        settings: SETTINGS,
+        gprs: GPRS,
+        config: CONFIG_WORDS,
+        dest: DEST_CELLS,
+        marks: DEST_ROWS,
+        src_a: SOURCE_CELLS,
+        src_b: SOURCE_CELLS,
+    };
+    let own = m.length as usize;
+    match m.part {
+        1 => n.settings = own,
+        2 => n.gprs = own,
+        3 => n.config = own,
+        4 => n.dest = own,
+        5 => n.marks = own,
+        6 => n.src_a = own,
+        7 => n.src_b = own,
+        _ => (),
     }
-}
-
-// The lesser of the two: how much there is of what is asked for.
-pub fn at_most(n: usize, most: usize) -> usize
-    ensures { (result ≤ n) × (result ≤ most) }
-{
-    if n < most { n } else { most }
+    n
 }

@@ -20,15 +20,14 @@ pub struct Made {
 pub fn read_made(s: &[u8], at: usize) -> Made
     requires { at + made_bytes ≤ length s.now }
 {
-    let number = Number {
-        kind: read(s, at + 4, 4),
-        place: read(s, at + 8, 4),
-        value: read(s, at + 12, 4),
-    };
     Made {
-        seed: read(s, at, 4),
-        number,
-        part: read(s, at + 16, 4),
-        length: read(s, at + 20, 4),
+        seed: read::<4>(s, at),
+        number: Number {
+            kind: read::<4>(s, at + 4).into(),
+            place: read::<4>(s, at + 8),
+            value: read::<4>(s, at + 12),
+        },
+        part: read::<4>(s, at + 16),
+        length: read::<4>(s, at + 20),
     }
 }

@@ -1,85 +1,95 @@
 // One number of a machine, set.
 use crate::parts::ROOM;
-use machine::control::{Control, Semaphore, Thread, Wait, with_thread};
+use bits::word::field;
+use machine::control::{Control, Semaphore, Thread, Wait};
 use machine::sizes::{BANK_OWNERS, BANK_POINTERS, MUTEXES, SEMAPHORES, SOURCE_CELLS, THREADS};
+use machine::units::ThreadNumber;
 
-// Which number: 1 a mutex, 2 a semaphore, 3 an owner, 4 a pointer, 5 a stall wait, 6 a semaphore wait, 7 a cell of SrcA, 8 one of
-// SrcB, any other none; its place among those of its kind; and its value, of several fields the first in its lowest bits.
+// Which number of a machine.
+#[derive(Clone, Copy, PartialEq, Eq)]
+pub enum Kind {
+    Mutex,
+    Semaphore,
+    Owner,
+    Pointer,
+    StallWait,
+    SemaphoreWait,
+    CellOfA,
+    CellOfB,
+    None,
+}
+
+impl From<u32> for Kind {
+    fn from(n: u32) -> Kind {
+        match n {
+            1 => Kind::Mutex,
+            2 => Kind::Semaphore,
+            3 => Kind::Owner,
+            4 => Kind::Pointer,
+            5 => Kind::StallWait,
+            6 => Kind::SemaphoreWait,
+            7 => Kind::CellOfA,
+            8 => Kind::CellOfB,
+            _ => Kind::None,
+        }
+    }
+}
+
+// Its kind, its place among those of its kind, and its value, of several fields the first in its lowest bits.
 #[derive(Clone, Copy)]
 pub struct Number {
-    pub kind: u32,
+    pub kind: Kind,
     pub place: u32,
     pub value: u32,
 }
 
-fn with_holder(c: Control, place: usize, v: u32) -> Control {
-    let mut d = c;
-    d.mutexes[place % MUTEXES] = (v % 256) as u8;
-    d
-}
-
-fn with_semaphore(c: Control, place: usize, v: u32) -> Control {
-    let mut d = c;
-    d.semaphores[place % SEMAPHORES] = Semaphore {
-        value: (v % 256) as u8,
-        maximum: (v / 256 % 256) as u8,
+// The control part with a thread's wait, the thread by its number, and by what is left of it where it is over 2.
+fn with_wait(c: Control, place: u32, wait: Wait) -> Control {
+    let Some(t) = ThreadNumber::new(place % THREADS as u32) else {
+        return c;
     };
-    d
-}
-
-fn with_owner(c: Control, place: usize, v: u32) -> Control {
-    let mut d = c;
-    d.owners[place % BANK_OWNERS] = (v % 256) as u8;
-    d
-}
-
-fn with_pointer(c: Control, place: usize, v: u32) -> Control {
-    let mut d = c;
-    d.pointers[place % BANK_POINTERS] = (v % 256) as u8;
-    d
-}
-
-fn with_stall(c: Control, place: usize, v: u32) -> Control {
-    let wait = Wait::OnStall {
-        block: (v % 65536) as u16,
-        conditions: v / 65536,
-    };
-    with_thread(c, place % THREADS, Thread { wait })
-}
-
-fn with_semaphore_wait(c: Control, place: usize, v: u32) -> Control {
-    let wait = Wait::OnSemaphore {
-        block: (v % 65536) as u16,
-        mask: (v / 65536 % 256) as u8,
-        condition: (v / 16777216) as u8,
-    };
-    with_thread(c, place % THREADS, Thread { wait })
+    c.with_thread(t, Thread { wait })
 }
 
 // The control part with the number set, where it is one of its own.
 pub fn set_number(c: Control, n: Number) -> Control {
+    let mut d = c;
     let place = n.place as usize;
-    let v = n.value;
-    let kind = n.kind;
-    match kind {
-        1 => with_holder(c, place, v),
-        2 => with_semaphore(c, place, v),
-        3 => with_owner(c, place, v),
-        4 => with_pointer(c, place, v),
-        5 => with_stall(c, place, v),
-        6 => with_semaphore_wait(c, place, v),
-        _ => c,
+    let byte = field::<0, 8>(n.value) as u8;
+    let block = field::<0, 16>(n.value) as u16;
+    match n.kind {
+        Kind::Mutex => d.mutexes[place % MUTEXES] = byte,
+        Kind::Semaphore => {
+            d.semaphores[place % SEMAPHORES] = Semaphore {
+                value: byte,
+                maximum: field::<8, 8>(n.value) as u8,
+            }
+        }
+        Kind::Owner => d.owners[place % BANK_OWNERS] = byte,
+        Kind::Pointer => d.pointers[place % BANK_POINTERS] = byte,
+        Kind::StallWait => {
+            let conditions = field::<16, 16>(n.value);
+            return with_wait(c, n.place, Wait::OnStall { block, conditions });
+        }
+        Kind::SemaphoreWait => {
+            let wait = Wait::OnSemaphore {
+                block,
+                mask: field::<16, 8>(n.value) as u8,
+                condition: field::<24, 8>(n.value) as u8,
+            };
+            return with_wait(c, n.place, wait);
+        }
+        _ => (),
     }
+    d
 }
 
 // The cells with the number set, where it is of this kind and its place is there.
-pub fn set_cell(cells: &mut [u32; ROOM * SOURCE_CELLS], n: Number, kind: u32) {
-    let place = n.place as usize;
+pub fn set_cell(cells: &mut [u32; ROOM * SOURCE_CELLS], n: Number, kind: Kind) {
     if n.kind != kind {
         return;
     }
-    if place < cells.len() {
-        cells[place] = n.value;
-        return;
+    if let Some(cell) = cells.get_mut(n.place as usize) {
+        *cell = n.value;
     }
 }

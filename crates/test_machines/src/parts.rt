@@ -1,8 +1,10 @@
 // A machine by value, in parts that have more than the machine's size, so that they can be lent too long.
+use crate::digest::digest_lent;
 use crate::made::Made;
-use crate::number::{set_cell, set_number};
-use crate::whole::fill_machine;
+use crate::number::{Kind, set_cell, set_number};
+use crate::whole::seeded_machine;
 use machine::control::Control;
+use machine::lent::MachineView;
 use machine::sizes::{CONFIG_WORDS, DEST_CELLS, DEST_ROWS, GPRS, SETTINGS, SOURCE_CELLS};
 
 // How many times the machine's size each part has.
@@ -22,48 +24,39 @@ pub struct Parts {
 
 // The machine that is asked for, with zeros after each part.
 pub fn make(m: Made) -> Parts {
-    let number = m.number;
-    let mut settings = [0u16; ROOM * SETTINGS];
-    let mut gprs = [0u32; ROOM * GPRS];
-    let mut config = [0u32; ROOM * CONFIG_WORDS];
-    let mut dest = [0u16; ROOM * DEST_CELLS];
-    let mut marks = [false; ROOM * DEST_ROWS];
-    let mut src_a = [0u32; ROOM * SOURCE_CELLS];
-    let mut src_b = [0u32; ROOM * SOURCE_CELLS];
-    let control = fill_machine(
-        m.seed,
-        &mut settings[..SETTINGS],
-        &mut gprs[..GPRS],
-        &mut config[..CONFIG_WORDS],
-        &mut dest[..DEST_CELLS],
-        &mut marks[..DEST_ROWS],
-        &mut src_a[..SOURCE_CELLS],
-        &mut src_b[..SOURCE_CELLS],
-    );
-    set_cell(&mut src_a, number, 7);
-    set_cell(&mut src_b, number, 8);
-    Parts {
-        control: set_number(control, number),
-        settings,
-        gprs,
-        config,
-        dest,
-        marks,
-        src_a,
-        src_b,
-    }
+    let whole = seeded_machine(m.seed);
+    let mut p = Parts {
+        control: set_number(whole.control, m.number),
+        settings: [0; ROOM * SETTINGS],
+        gprs: [0; ROOM * GPRS],
+        config: [0; ROOM * CONFIG_WORDS],
+        dest: [0; ROOM * DEST_CELLS],
+        marks: [false; ROOM * DEST_ROWS],
+        src_a: [0; ROOM * SOURCE_CELLS],
+        src_b: [0; ROOM * SOURCE_CELLS],
+    };
+    p.settings[..SETTINGS].copy_from_slice(&whole.settings);
+    p.gprs[..GPRS].copy_from_slice(&whole.gprs);
+    p.config[..CONFIG_WORDS].copy_from_slice(&whole.config);
+    p.dest[..DEST_CELLS].copy_from_slice(&whole.dest);
+    p.marks[..DEST_ROWS].copy_from_slice(&whole.marks);
+    p.src_a[..SOURCE_CELLS].copy_from_slice(&whole.src_a);
+    p.src_b[..SOURCE_CELLS].copy_from_slice(&whole.src_b);
+    set_cell(&mut p.src_a, m.number, Kind::CellOfA);
+    set_cell(&mut p.src_b, m.number, Kind::CellOfB);
+    p
 }
 
 // The digest of the parts, with what stands after the machine's.
 pub fn digest_parts(p: Parts) -> u32 {
-    let settings = p.settings;
-    let gprs = p.gprs;
-    let config = p.config;
-    let dest = p.dest;
-    let marks = p.marks;
-    let src_a = p.src_a;
-    let src_b = p.src_b;
-    crate::digest::digest_lent(
-        p.control, &settings, &gprs, &config, &dest, &marks, &src_a, &src_b,
-    )
+    digest_lent(MachineView {
+        control: p.control,
+        settings: &p.settings,
+        gprs: &p.gprs,
+        config: &p.config,
+        dest: &p.dest,
+        marks: &p.marks,
+        src_a: &p.src_a,
+        src_b: &p.src_b,
+    })
 }

@@ -56,48 +56,32 @@ pub fn add_word(s: Sums, v: u32) -> Sums {
 
 // A mark is the byte 1, none the byte 0.
 pub fn add_mark(s: Sums, v: bool) -> Sums {
-    if v {
-        return add_byte(s, 1);
+    add_byte(s, v as u8)
+}
+
+// The sums with each item added, in order.
+fn add_all<T: Copy, F: Fn(Sums, T) -> Sums>(s: Sums, a: &[T], add: F) -> Sums
+    requires { F.IsAlwaysCallable add }
+{
+    let mut t = s;
+    for x in a {
+        t = add(t, *x);
     }
-    add_byte(s, 0)
+    t
 }
 
 pub fn add_bytes(s: Sums, a: &[u8]) -> Sums {
-    let mut t = s;
-    let mut i = 0;
-    while i < a.len() {
-        t = add_byte(t, a[i]);
-        i += 1;
-    }
-    t
+    add_all(s, a, add_byte)
 }
 
 pub fn add_halves(s: Sums, a: &[u16]) -> Sums {
-    let mut t = s;
-    let mut i = 0;
-    while i < a.len() {
-        t = add_half(t, a[i]);
-        i += 1;
-    }
-    t
+    add_all(s, a, add_half)
 }
 
 pub fn add_words(s: Sums, a: &[u32]) -> Sums {
-    let mut t = s;
-    let mut i = 0;
-    while i < a.len() {
-        t = add_word(t, a[i]);
-        i += 1;
-    }
-    t
+    add_all(s, a, add_word)
 }
 
 pub fn add_marks(s: Sums, a: &[bool]) -> Sums {
-    let mut t = s;
-    let mut i = 0;
-    while i < a.len() {
-        t = add_mark(t, a[i]);
-        i += 1;
-    }
-    t
+    add_all(s, a, add_mark)
 }

@@ -2,62 +2,23 @@
 use crate::controls::draw_control;
 use crate::digest::digest_lent;
 use crate::fills::{fill_halves, fill_marks, fill_words};
-use machine::control::Control;
 use machine::fresh::{WholeMachine, fresh};
-use machine::sizes::{
-    CELL_MOST, CONFIG_WORDS, DEST_CELLS, DEST_ROWS, GPRS, SETTINGS, SOURCE_CELLS,
-};
+use machine::lent::MachineView;
+use machine::sizes::CELL_MOST;
 
-// The machine of a seed: its control part is the answer, and each lent part is filled whole.
-pub fn fill_machine(
-    seed: u32,
-    settings: &mut [u16],
-    gprs: &mut [u32],
-    config: &mut [u32],
-    dest: &mut [u16],
-    marks: &mut [bool],
-    src_a: &mut [u32],
-    src_b: &mut [u32],
-) -> Control {
-    let drawn = draw_control(seed);
-    let x1 = fill_halves(drawn.state, settings);
-    let x2 = fill_words(x1, u32::MAX, gprs);
-    let x3 = fill_words(x2, u32::MAX, config);
-    let x4 = fill_halves(x3, dest);
-    let x5 = fill_marks(x4, marks);
-    let x6 = fill_words(x5, CELL_MOST, src_a);
-    fill_words(x6, CELL_MOST, src_b);
-    drawn.control
-}
-
+// The machine of a seed.
 pub fn seeded_machine(seed: u32) -> WholeMachine {
-    let mut settings = [0; SETTINGS];
-    let mut gprs = [0; GPRS];
-    let mut config = [0; CONFIG_WORDS];
-    let mut dest = [0; DEST_CELLS];
-    let mut marks = [false; DEST_ROWS];
-    let mut src_a = [0; SOURCE_CELLS];
-    let mut src_b = [0; SOURCE_CELLS];
-    let control = fill_machine(
-        seed,
-        &mut settings,
-        &mut gprs,
-        &mut config,
-        &mut dest,
-        &mut marks,
-        &mut src_a,
-        &mut src_b,
-    );
-    WholeMachine {
-        control,
-        settings,
-        gprs,
-        config,
-        dest,
-        marks,
-        src_a,
-        src_b,
-    }
+    let drawn = draw_control(seed);
+    let mut m = fresh();
+    m.control = drawn.control;
+    let x1 = fill_halves(drawn.state, &mut m.settings);
+    let x2 = fill_words(x1, u32::MAX, &mut m.gprs);
+    let x3 = fill_words(x2, u32::MAX, &mut m.config);
+    let x4 = fill_halves(x3, &mut m.dest);
+    let x5 = fill_marks(x4, &mut m.marks);
+    let x6 = fill_words(x5, CELL_MOST, &mut m.src_a);
+    fill_words(x6, CELL_MOST, &mut m.src_b);
+    m
 }
 
 // The machine of a seed; of 0, a fresh one.
@@ -70,22 +31,21 @@ pub fn seeded_or_fresh(seed: u32) -> WholeMachine {
 
 // The same, with a fresh control part.
 pub fn with_fresh_control(seed: u32) -> WholeMachine {
-    let f = fresh();
-    let control = f.control;
-    let mut m = seeded_or_fresh(seed);
-    m.control = control;
-    m
+    WholeMachine {
+        control: fresh().control,
+        ..seeded_or_fresh(seed)
+    }
 }
 
-pub fn digest_whole(m: WholeMachine) -> u32 {
-    let settings = m.settings;
-    let gprs = m.gprs;
-    let config = m.config;
-    let dest = m.dest;
-    let marks = m.marks;
-    let src_a = m.src_a;
-    let src_b = m.src_b;
-    digest_lent(
-        m.control, &settings, &gprs, &config, &dest, &marks, &src_a, &src_b,
-    )
+pub fn digest_whole(m: &WholeMachine) -> u32 {
+    digest_lent(MachineView {
+        control: m.control,
+        settings: &m.settings,
+        gprs: &m.gprs,
+        config: &m.config,
+        dest: &m.dest,
+        marks: &m.marks,
+        src_a: &m.src_a,
+        src_b: &m.src_b,
+    })
 }
