@@ -1,10 +1,11 @@
 // How much is lent of each part.
-ghost use Rattle.std.specs.Prelude.{◌≤◌};
+ghost use Rattle.test_machines.specs.Made.{LentWithin};
 
 use crate::made::Made;
+use crate::parts::ROOM;
 use machine::sizes::{CONFIG_WORDS, DEST_CELLS, DEST_ROWS, GPRS, SETTINGS, SOURCE_CELLS};
 
-// How much is asked for of each part; there may be less.
+// How much is lent of each part.
 #[derive(Clone, Copy)]
 pub struct Lengths {
     pub settings: usize,
@@ -16,8 +17,10 @@ pub struct Lengths {
     pub src_b: usize,
 }
 
-// Each part at the machine's size, but for the one that has a length of its own.
-pub fn lent_lengths(m: Made) -> Lengths {
+// Each part at the machine's size, but for the one that has a length of its own, or as much as there is of it.
+pub fn lent_lengths(m: Made) -> Lengths
+    ensures { LentWithin result }
+{
     let mut n = Lengths {
         settings: SETTINGS,
         gprs: GPRS,
@@ -29,13 +32,13 @@ pub fn lent_lengths(m: Made) -> Lengths {
     };
     let own = m.length as usize;
     match m.part {
-        1 => n.settings = own,
-        2 => n.gprs = own,
-        3 => n.config = own,
-        4 => n.dest = own,
-        5 => n.marks = own,
-        6 => n.src_a = own,
-        7 => n.src_b = own,
+        1 => n.settings = own.min(ROOM * SETTINGS),
+        2 => n.gprs = own.min(ROOM * GPRS),
+        3 => n.config = own.min(ROOM * CONFIG_WORDS),
+        4 => n.dest = own.min(ROOM * DEST_CELLS),
+        5 => n.marks = own.min(ROOM * DEST_ROWS),
+        6 => n.src_a = own.min(ROOM * SOURCE_CELLS),
+        7 => n.src_b = own.min(ROOM * SOURCE_CELLS),
         _ => (),
     }
     n

@@ -1,5 +1,6 @@
 // A machine by value, in parts that have more than the machine's size, so that they can be lent too long.
 use crate::digest::digest_lent;
+use crate::lengths::lent_lengths;
 use crate::made::Made;
 use crate::number::{Kind, set_cell, set_number};
 use crate::whole::seeded_machine;
@@ -45,6 +46,21 @@ pub fn make(m: Made) -> Parts {
     set_cell(&mut p.src_a, m.number, Kind::CellOfA);
     set_cell(&mut p.src_b, m.number, Kind::CellOfB);
     p
+}
+
+// The machine that is asked for as it is lent.
+pub fn lent_view(p: &Parts, m: Made) -> MachineView<'_> {
+    let n = lent_lengths(m);
+    MachineView {
+        control: p.control,
+        settings: &p.settings[..n.settings],
+        gprs: &p.gprs[..n.gprs],
+        config: &p.config[..n.config],
+        dest: &p.dest[..n.dest],
+        marks: &p.marks[..n.marks],
+        src_a: &p.src_a[..n.src_a],
+        src_b: &p.src_b[..n.src_b],
+    }
 }
 
 // The digest of the parts, with what stands after the machine's.
