@@ -1,24 +1,15 @@
-use mathlib.Core.Path.{sym, ◌∙◌}
-use mathlib.Core.Bool.{true, false}
+use Rattle.std.proofs.Common.{true, false}
 use Rattle.word_rules.specs.CellWords.{cell_after}
-use Rattle.word_rules.proofs.Offering.{store_stopped, store_going}
+use Rattle.word_rules.proofs.Offering.{store_held_up, store_going}
 use Rattle.word_cell.proofs.mov_b2a.Goals as goal
 
-pub returns-then-stopped : goal.returns-then-stopped
-returns-then-stopped c t s k =
-    let fine = c.no_addr_mod-fine in
-    rw (← fine.ensures)
-    (store_stopped fine.result true _ _ _ t _ _ _ c.b6-stalls.ensures s _ _ (sym c.stopped.ensures ∙ c.if-stopped.true) c.verdict.ensures)
+pub returns-in-Some : goal.returns-in-Some
+returns-in-Some c t s k = rw (← c.no_addr_mod.ensures) (store_held_up _ true _ _ t _ _ _ s _ _ c.in-Some.ensures)
 
-pub returns-then-owned : goal.returns-then-owned
-unfolding cell_after
-returns-then-owned c t s k =
-    let fine = c.no_addr_mod-fine in
-    rw (c.if-owned.true, c.copy_rows.ensures, c.row_b.ensures, c.four.ensures, c.row_a.ensures, ← fine.ensures)
-    (store_going fine.result true _ _ true t _ _ _ c.b6-stalls.ensures s _ (sym c.stopped.ensures ∙ c.if-stopped.false))
+pub returns-then-not-owned : goal.returns-then-not-owned
+returns-then-not-owned c t s k = rw (c.if-not-owned.true, ← c.no_addr_mod.ensures) (store_going _ true _ false t _ _ _ s _ c.in_default.ensures)
 
 pub returns : goal.returns
+unfolding cell_after
 returns c t s k =
-    let fine = c.no_addr_mod-fine in
-    rw (c.if-owned.false, ← fine.ensures)
-    (store_going fine.result true _ _ false t _ _ _ c.b6-stalls.ensures s _ (sym c.stopped.ensures ∙ c.if-stopped.false))
+    rw (c.if-not-owned.false, c.copy_rows.ensures, ← c.no_addr_mod.ensures) (store_going _ true _ true t _ _ _ s _ c.in_default.ensures)

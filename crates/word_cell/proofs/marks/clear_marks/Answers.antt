@@ -1,15 +1,11 @@
-use mathlib.Core.Path.{sym, ◌∙◌}
-use native.Mathlib.Nat.{add-zero, sub-zero}
-use native.Mathlib.Omega.{arith}
-use Rattle.bits.proofs.Overwrite.{fill_step, fill_done}
-use Rattle.std.proofs.Common.{rules}
+use Rattle.std.proofs.Common.{◌≡◌, ◌+◌, ◌-◌, length, replicate, take, drop, length-take, length-drop, false, ap, ◌∙◌, arith}
+use Rattle.std.proofs.lemmas.List.{length-replicate}
+use Rattle.bits.proofs.Overwrite.{put_mid-over}
 use Rattle.word_cell.proofs.marks.clear_marks.Goals as goal
 
-pub loop-i-init : goal.loop-i-init
-loop-i-init c = (search rules, search rules, simp (sub-zero, add-zero))
-
-pub loop-i-preserved : goal.loop-i-preserved
-loop-i-preserved c = (search rules, search rules, fill_step _ _ _ _ _ (omega arith) c.loop-i-test.true ∙ c.loop-i.invariant.2)
-
 pub returns : goal.returns
-returns c = sym (fill_done _ _ _ _ _ (omega arith)) ∙ c.loop-i.invariant.2
+returns c =
+    let a = c.args in
+    let n : a.first + a.count - a.first ≡ a.count = omega arith in
+    let long : length (take (a.first + a.count - a.first) (drop a.first a.marks.now)) ≡ a.count = simp (length-take, length-drop) (omega arith) in
+    put_mid-over a.first _ _ _ (replicate a.count false) (c.fill.ensures.after (λ y h. h) ∙ ap (λ k. replicate k false) long) (rw length-replicate n)
