@@ -12,10 +12,6 @@ use Rattle.bench_dest.specs.DestRows.{bank_check, dest_check}
 
 -- the checks may be made first
 module _ {A B : Type 0} (a : A) (x : Told B) where
-  pub bank_before : (words cells marks bank : ℕ) → bank_check words cells marks bank x ≡ before (bank_check words cells marks bank (accepted a)) x
-  unfolding bank_check
-  bank_before words cells marks bank = simp provided_before
-
   pub dest_before : (words cells marks bank row rows : ℕ) → dest_check words cells marks bank row rows x ≡ before (dest_check words cells marks bank row rows (accepted a)) x
   unfolding bank_check
   dest_before words cells marks bank row rows = simp provided_before

@@ -1,3 +1,2 @@
 pub mod DestRows
-pub mod Places
 pub mod Promises

@@ -1,8 +1,8 @@
 // Whole Dest rows, in the 16-bit and in the 32-bit view. The bench names the Config bank whose flags set the maps.
 #![tactic(auto)]
 
-mod places;
 mod stored;
+mod view;
 
 ghost use Rattle.std.specs.Prelude.{◌≡◌};
 ghost use Rattle.machine.specs.Answers.{told, call};
@@ -10,14 +10,17 @@ ghost use Rattle.machine.specs.Machine.{dest_of};
 ghost use Rattle.bench_dest.specs.DestRows.{read_row16_of, write_row16_of, read_row32_of, write_row32_of};
 ghost use Rattle.bench_dest.specs.Promises.{DestPromises};
 
-use crate::places::{Place16, Place32, find16, find32};
 use crate::stored::{read_stored, write_stored};
-use bench_cells::{halves_of, put_halves, put_wide};
-use machine::access::Access;
+use crate::view::find_row;
+use bench_cells::{halves_of, wide_of};
+use bits::put::put_all;
+use dest::maps::{high_row, low_row, storage_row};
+use dest::rows::{VIEW_16_ROWS, VIEW_32_ROWS};
 use machine::refusal::Refusal;
 use machine::sizes::ROW_CELLS;
 
 // Reads a row of the 16-bit view into the first sixteen of `out`.
+#[tactic(auto, using(dest::proofs::Apart::storage16_lt), unfolding(crate::specs::DestRows::bank_check, crate::specs::DestRows::read_row16_of))]
 pub fn read_row16(
     config: &[u32],
     dest: &[u16],
@@ -25,23 +28,20 @@ pub fn read_row16(
     bank: u32,
     row: u32,
     out: &mut [u16],
-) -> Access
+) -> Result<(), Refusal>
     ensures { call (told result) out.new ≡ read_row16_of config.now (dest_of dest.now marks.now) bank row out.old }
 {
-    match find16(config, dest.len(), marks.len(), bank, row) {
-        Place16::Refused(r) => Access::Refused(r),
-        Place16::At16(at) => {
-            if out.len() < ROW_CELLS {
-                return Access::Refused(Refusal::ShortOutput);
-            }
-            let cells = read_stored(dest, marks, at);
-            put_halves(out, 0, &cells);
-            Access::Granted
-        }
+    let (flags, view) = find_row::<VIEW_16_ROWS>(config, dest.len(), marks.len(), bank, row)?;
+    if out.len() < ROW_CELLS {
+        return Err(Refusal::ShortOutput);
     }
+    let cells = read_stored(dest, marks, storage_row(flags, view));
+    put_all(out, 0, &cells);
+    Ok(())
 }
 
 // Writes a row of the 16-bit view.
+#[tactic(auto, using(dest::proofs::Apart::storage16_lt), unfolding(crate::specs::DestRows::bank_check, crate::specs::DestRows::write_row16_of))]
 pub fn write_row16(
     config: &[u32],
     dest: &mut [u16],
@@ -49,22 +49,17 @@ pub fn write_row16(
     bank: u32,
     row: u32,
     cells: &[u16],
-) -> Access
+) -> Result<(), Refusal>
     ensures { call (told result) (dest_of dest.new marks.new) ≡ write_row16_of config.now (dest_of dest.old marks.old) bank row cells.now }
 {
-    if cells.len() != ROW_CELLS {
-        return Access::Refused(Refusal::BadLength);
-    }
-    match find16(config, dest.len(), marks.len(), bank, row) {
-        Place16::Refused(r) => Access::Refused(r),
-        Place16::At16(at) => {
-            write_stored(dest, marks, at, cells);
-            Access::Granted
-        }
-    }
+    let cells = cells.as_array::<ROW_CELLS>().ok_or(Refusal::BadLength)?;
+    let (flags, view) = find_row::<VIEW_16_ROWS>(config, dest.len(), marks.len(), bank, row)?;
+    write_stored(dest, marks, storage_row(flags, view), cells);
+    Ok(())
 }
 
 // Reads a row of the 32-bit view into the first sixteen of `out`.
+#[tactic(auto, using(dest::proofs::Bounds::high32_lt, dest::proofs::Bounds::low32_lt), unfolding(crate::specs::DestRows::bank_check, crate::specs::DestRows::read_row32_of))]
 pub fn read_row32(
     config: &[u32],
     dest: &[u16],
@@ -72,24 +67,21 @@ pub fn read_row32(
     bank: u32,
     row: u32,
     out: &mut [u32],
-) -> Access
+) -> Result<(), Refusal>
     ensures { call (told result) out.new ≡ read_row32_of config.now (dest_of dest.now marks.now) bank row out.old }
 {
-    match find32(config, dest.len(), marks.len(), bank, row) {
-        Place32::Refused(r) => Access::Refused(r),
-        Place32::At32 { high, low } => {
-            if out.len() < ROW_CELLS {
-                return Access::Refused(Refusal::ShortOutput);
-            }
-            let upper = read_stored(dest, marks, high);
-            let lower = read_stored(dest, marks, low);
-            put_wide(out, &upper, &lower);
-            Access::Granted
-        }
+    let (flags, view) = find_row::<VIEW_32_ROWS>(config, dest.len(), marks.len(), bank, row)?;
+    if out.len() < ROW_CELLS {
+        return Err(Refusal::ShortOutput);
     }
+    let high = read_stored(dest, marks, high_row(flags, view));
+    let low = read_stored(dest, marks, low_row(flags, view));
+    put_all(out, 0, &wide_of(&high, &low));
+    Ok(())
 }
 
 // Writes a row of the 32-bit view.
+#[tactic(auto, using(dest::proofs::Bounds::high32_lt, dest::proofs::Bounds::low32_lt), unfolding(crate::specs::DestRows::bank_check, crate::specs::DestRows::write_row32_of))]
 pub fn write_row32(
     config: &[u32],
     dest: &mut [u16],
@@ -97,22 +89,14 @@ pub fn write_row32(
     bank: u32,
     row: u32,
     cells: &[u32],
-) -> Access
+) -> Result<(), Refusal>
     ensures { call (told result) (dest_of dest.new marks.new) ≡ write_row32_of config.now (dest_of dest.old marks.old) bank row cells.now }
 {
-    if cells.len() != ROW_CELLS {
-        return Access::Refused(Refusal::BadLength);
-    }
-    match find32(config, dest.len(), marks.len(), bank, row) {
-        Place32::Refused(r) => Access::Refused(r),
-        Place32::At32 { high, low } => {
-            let upper = halves_of(cells, 65536);
-            let lower = halves_of(cells, 1);
-            write_stored(dest, marks, high, &upper);
-            write_stored(dest, marks, low, &lower);
-            Access::Granted
-        }
-    }
+    let cells = cells.as_array::<ROW_CELLS>().ok_or(Refusal::BadLength)?;
+    let (flags, view) = find_row::<VIEW_32_ROWS>(config, dest.len(), marks.len(), bank, row)?;
+    write_stored(dest, marks, high_row(flags, view), &halves_of::<16>(cells));
+    write_stored(dest, marks, low_row(flags, view), &halves_of::<0>(cells));
+    Ok(())
 }
 
 // What is promised of the calls together, in each view: what is written is read back, and all else is left as it reads.

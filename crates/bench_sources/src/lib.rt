@@ -6,8 +6,7 @@ ghost use Rattle.machine.specs.Answers.{told, call};
 ghost use Rattle.bench_sources.specs.Sources.{sources, sources_sized, sources_formed, row_in_range, source_check, write_source_row_of, can_show, shown_row, shown_at};
 ghost use Rattle.bench_sources.specs.Promises.{SourcePromises};
 
-use bench_cells::put_words;
-use machine::access::Access;
+use bits::put::put_all;
 use machine::control::Control;
 use machine::places::row_place;
 use machine::refusal::Refusal;
@@ -16,29 +15,29 @@ use machine_formed::cells_formed;
 use machine_formed::control::control_formed;
 use word_waits::unpackers_own;
 
+#[tactic(auto, unfolding(crate::specs::Sources::sources_sized))]
 fn sources_sized(src_a: &[u32], src_b: &[u32], cells: &[u32]) -> bool
     ensures { result ≡ sources_sized (sources src_a.now src_b.now) cells.now }
 {
-    let a = src_a.len() == SOURCE_CELLS;
-    let b = src_b.len() == SOURCE_CELLS;
-    bits::both(a, bits::both(b, cells.len() == ROW_CELLS))
+    src_a.len() == SOURCE_CELLS && src_b.len() == SOURCE_CELLS && cells.len() == ROW_CELLS
 }
 
+#[tactic(auto, unfolding(crate::specs::Sources::sources_formed))]
 fn sources_formed(control: Control, src_a: &[u32], src_b: &[u32]) -> bool
     ensures { result ≡ sources_formed control (sources src_a.now src_b.now) }
 {
-    let a = cells_formed(src_a);
-    let b = cells_formed(src_b);
-    bits::both(control_formed(control), bits::both(a, b))
+    control_formed(control) && cells_formed(src_a) && cells_formed(src_b)
 }
 
+#[tactic(auto, unfolding(crate::specs::Sources::row_in_range))]
 fn row_in_range(file: u32, row: u32, cells: &[u32]) -> bool
     ensures { result ≡ row_in_range file row cells.now }
 {
-    bits::both(file <= 1, bits::both(row <= 63, cells_formed(cells)))
+    file <= 1 && row <= 63 && cells_formed(cells)
 }
 
 // Whether a source row may be written, or why not.
+#[tactic(auto, unfolding(crate::specs::Sources::source_check))]
 fn source_access(
     control: Control,
     src_a: &[u32],
@@ -46,25 +45,26 @@ fn source_access(
     file: u32,
     row: u32,
     cells: &[u32],
-) -> Access
+) -> Result<(), Refusal>
     ensures { told result ≡ source_check control (sources src_a.now src_b.now) file row cells.now }
 {
     if !sources_sized(src_a, src_b, cells) {
-        return Access::Refused(Refusal::BadLength);
+        return Err(Refusal::BadLength);
     }
     if !sources_formed(control, src_a, src_b) {
-        return Access::Refused(Refusal::Malformed);
+        return Err(Refusal::Malformed);
     }
     if !row_in_range(file, row, cells) {
-        return Access::Refused(Refusal::BadPlace);
+        return Err(Refusal::BadPlace);
     }
     if !unpackers_own(control, file as usize) {
-        return Access::Refused(Refusal::WrongOwner);
+        return Err(Refusal::WrongOwner);
     }
-    Access::Granted
+    Ok(())
 }
 
 // Writes a row of a source file into the bank at its unpack pointer, if Unpackers own it.
+#[tactic(auto, unfolding(crate::specs::Sources::write_source_row_of))]
 pub fn write_source_row(
     control: Control,
     src_a: &mut [u32],
@@ -72,31 +72,26 @@ pub fn write_source_row(
     file: u32,
     row: u32,
     cells: &[u32],
-) -> Access
+) -> Result<(), Refusal>
     ensures { call (told result) (sources src_a.new src_b.new) ≡ write_source_row_of control (sources src_a.old src_b.old) file row cells.now }
 {
-    let access = source_access(control, src_a, src_b, file, row, cells);
-    if let Access::Refused(_) = access {
-        return access;
-    }
+    source_access(control, src_a, src_b, file, row, cells)?;
     let bank = control.pointers[2 + file as usize] as usize;
     let at = row_place(bank, row as usize);
     if file == 0 {
-        put_words(src_a, at, cells);
-        return Access::Granted;
+        put_all(src_a, at, cells);
+        return Ok(());
     }
-    put_words(src_b, at, cells);
-    Access::Granted
+    put_all(src_b, at, cells);
+    Ok(())
 }
 
 // Whether there is a row to show; `a` and `b` are how many cells the two stores have.
+#[tactic(auto, unfolding(crate::specs::Sources::can_show))]
 fn can_show(a: usize, b: usize, file: u32, bank: u32, row: u32) -> bool
     ensures { result ≡ can_show a b file bank row }
 {
-    bits::both(
-        bits::both(a == SOURCE_CELLS, b == SOURCE_CELLS),
-        bits::both(file <= 1, bits::both(bank <= 1, row <= 63)),
-    )
+    (a == SOURCE_CELLS && b == SOURCE_CELLS) && (file <= 1 && bank <= 1 && row <= 63)
 }
 
 // Shows a row of a source file as a part of its store. It is empty where there is none: nothing is refused, and of which store
@@ -105,8 +100,7 @@ pub fn show_row<'a>(src_a: &'a [u32], src_b: &'a [u32], file: u32, bank: u32, ro
     ensures cells { result.now ≡ shown_row src_a.now src_b.now file bank row }
     ensures part { can_show (length src_a.now) (length src_b.now) file bank row ≡ true → result.ref_ptr ≡ shown_at src_a.entry.ref_ptr src_b.entry.ref_ptr file bank row }
 {
-    let shown = can_show(src_a.len(), src_b.len(), file, bank, row);
-    if !shown {
+    if !can_show(src_a.len(), src_b.len(), file, bank, row) {
         return &src_a[0..0];
     }
     let at = row_place(bank as usize, row as usize);

@@ -9,23 +9,23 @@ use Rattle.machine.proofs.Checks.{held, failed}
 use Rattle.bench_sources.proofs.Facts.{show_facts}
 use Rattle.bench_sources.proofs.show_row.Goals as goal
 
-pub returns-then-not-shown : goal.returns-then-not-shown
+pub returns-then-not-can_show : goal.returns-then-not-can_show
 unfolding shown_row
-returns-then-not-shown c =
+returns-then-not-can_show c =
     let a = c.args in
-    let e : can_show (length a.src_a.now) (length a.src_b.now) a.file a.bank a.row ≡ false = failed c.can_show-shown.ensures c.if-not-shown.true in
+    let e : can_show (length a.src_a.now) (length a.src_b.now) a.file a.bank a.row ≡ false = failed c.can_show.ensures c.if-not-can_show.true in
     record { cells = rw e; part = λ h. let z : ◌≡◌ {A = ℕ} 0 1 = cc in absurd (omega arith) }
 
 pub row_place-at-requires : goal.row_place-at-requires
 row_place-at-requires c =
     let a = c.args in
-    let f = show_facts (length a.src_a.now) (length a.src_b.now) a.file a.bank a.row (held c.can_show-shown.ensures c.if-not-shown.false) in
+    let f = show_facts (length a.src_a.now) (length a.src_b.now) a.file a.bank a.row (held c.can_show.ensures c.if-not-can_show.false) in
     (omega (arith, f.bank_in), omega (arith, f.row_in))
 
 pub slice_bounds-result-end-then-file-eq0 : goal.slice_bounds-result-end-then-file-eq0
 slice_bounds-result-end-then-file-eq0 c =
     let a = c.args in
-    omega (arith, c.row_place-at.ensures, show_facts (length a.src_a.now) (length a.src_b.now) a.file a.bank a.row (held c.can_show-shown.ensures c.if-not-shown.false))
+    omega (arith, c.row_place-at.ensures, show_facts (length a.src_a.now) (length a.src_b.now) a.file a.bank a.row (held c.can_show.ensures c.if-not-can_show.false))
 
 pub returns-then-file-eq0 : goal.returns-then-file-eq0
 unfolding shown_row
@@ -33,14 +33,14 @@ returns-then-file-eq0 c =
     let a = c.args in
     let p = c.row_place-at.result in
     let n : p + 16 - p ≡ 16 = omega arith in
-    let e : can_show (length a.src_a.now) (length a.src_b.now) a.file a.bank a.row ≡ true = held c.can_show-shown.ensures c.if-not-shown.false in
+    let e : can_show (length a.src_a.now) (length a.src_b.now) a.file a.bank a.row ≡ true = held c.can_show.ensures c.if-not-can_show.false in
     let t = eq-eqb a.file 0 c.if-file-eq0.true in
     record { cells = rw (e, n, c.row_place-at.ensures, t); part = λ h. rw (c.row_place-at.ensures, t) }
 
 pub slice_bounds-result-end-2 : goal.slice_bounds-result-end-2
 slice_bounds-result-end-2 c =
     let a = c.args in
-    omega (arith, c.row_place-at.ensures, show_facts (length a.src_a.now) (length a.src_b.now) a.file a.bank a.row (held c.can_show-shown.ensures c.if-not-shown.false))
+    omega (arith, c.row_place-at.ensures, show_facts (length a.src_a.now) (length a.src_b.now) a.file a.bank a.row (held c.can_show.ensures c.if-not-can_show.false))
 
 pub returns : goal.returns
 unfolding shown_row
@@ -48,6 +48,6 @@ returns c =
     let a = c.args in
     let p = c.row_place-at.result in
     let n : p + 16 - p ≡ 16 = omega arith in
-    let e : can_show (length a.src_a.now) (length a.src_b.now) a.file a.bank a.row ≡ true = held c.can_show-shown.ensures c.if-not-shown.false in
+    let e : can_show (length a.src_a.now) (length a.src_b.now) a.file a.bank a.row ≡ true = held c.can_show.ensures c.if-not-can_show.false in
     let t = ne_eqb a.file 0 c.if-file-eq0.false in
     record { cells = rw (e, n, c.row_place-at.ensures, t); part = λ h. rw (c.row_place-at.ensures, t) }
