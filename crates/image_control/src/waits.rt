@@ -4,27 +4,26 @@ ghost use Rattle.bits.specs.Overwrite.{Wrote};
 ghost use Rattle.image_layout.specs.Control.{wait_of_triple, wait_triple, thread_format};
 ghost use Rattle.image_layout.specs.Places.{wait_size};
 
+use bits::word::field;
+use format::number::{read, write};
 use machine::control::{Thread, Wait};
 
 // The wait of three numbers.
-fn wait_of_triple(kind: u32, block: u16, low: u16) -> Wait
+#[tactic(auto, unfolding(image_layout::specs::Control::wait_of_triple))]
+fn wait_of_triple(kind: u32, block: u16, low: u32) -> Wait
     ensures { result ≡ wait_of_triple (kind, (block, low)) }
 {
-    if kind == 0 {
-        return Wait::Clear;
-    }
-    if kind == 1 {
-        return Wait::OnStall {
+    match kind {
+        0 => Wait::Clear,
+        1 => Wait::OnStall {
             block,
-            conditions: low as u32,
-        };
-    }
-    let mask = ((low >> 2) % 256) as u8;
-    let condition = ((low >> 0) % 4) as u8;
-    Wait::OnSemaphore {
-        block,
-        mask,
-        condition,
+            conditions: low,
+        },
+        _ => Wait::OnSemaphore {
+            block,
+            mask: field::<2, 8>(low) as u8,
+            condition: field::<0, 2>(low) as u8,
+        },
     }
 }
 
@@ -33,11 +32,12 @@ pub(crate) fn read_thread(s: &[u8], at: usize) -> Thread
     requires { at + wait_size ≤ length s.now }
     ensures { result ≡ thread_format.get (drop at s.now) }
 {
-    let kind = format::number::read(s, at, 1);
-    let block = format::number::read_half(s, at + 1);
-    let low = format::number::read_half(s, at + 3);
-    let wait = wait_of_triple(kind, block, low);
-    Thread { wait }
+    let kind = read::<1>(s, at);
+    let block = read::<2>(s, at + 1) as u16;
+    let low = read::<2>(s, at + 3);
+    Thread {
+        wait: wait_of_triple(kind, block, low),
+    }
 }
 
 // Writes a wait's three numbers. Internal: there is room.
@@ -45,9 +45,9 @@ fn write_triple(out: &mut [u8], at: usize, kind: u32, block: u16, low: u32)
     requires { at + wait_size ≤ length out.old }
     ensures { Wrote out.old at (wait_triple.put (kind, (block, low))) out.new (at + wait_size) }
 {
-    format::number::write(out, at, 1, kind);
-    format::number::write_half(out, at + 1, block);
-    format::number::write(out, at + 3, 2, low);
+    write::<1>(out, at, kind);
+    write::<2>(out, at + 1, block as u32);
+    write::<2>(out, at + 3, low);
 }
 
 // Writes a thread's wait. Internal: there is room.
@@ -55,8 +55,7 @@ pub(crate) fn write_thread(out: &mut [u8], at: usize, t: Thread)
     requires { at + wait_size ≤ length out.old }
     ensures { Wrote out.old at (thread_format.put t) out.new (at + wait_size) }
 {
-    let wait = t.wait;
-    match wait {
+    match t.wait {
         Wait::Clear => write_triple(out, at, 0, 0, 0),
         Wait::OnStall { block, conditions } => write_triple(out, at, 1, block, conditions),
         Wait::OnSemaphore {

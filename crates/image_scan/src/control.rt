@@ -5,7 +5,7 @@ ghost use Rattle.image_layout.specs.Image.{control_record};
 ghost use Rattle.image_layout.specs.Places.{settings_at, waits_at, owners_at};
 
 use format::HEAD_BYTES;
-use format::check::{any_fields, fields, good_across, head};
+use format::check::{fields, good_across, head};
 use image_layout::{
     CONTROL_BYTES, MUTEXES_AT, OWNERS_AT, POINTERS_AT, SEMAPHORES_AT, SETTINGS_AT, WAIT_0_AT,
     WAIT_1_AT, WAIT_2_AT,
@@ -29,7 +29,9 @@ const TO_OWNERS: usize = OWNERS_AT - SETTINGS_AT;
 
 const SEMAPHORE_NUMBERS: usize = SEMAPHORES * 2;
 
-// The largest numbers of a mutex and of a semaphore.
+// The largest numbers of a setting, a mutex and a semaphore.
+const SETTING_MOST: u32 = u16::MAX as u32;
+
 const MUTEX_MOST: u32 = HOLDER_MOST as u32;
 
 const VALUE_MOST: u32 = SEMAPHORE_MOST as u32;
@@ -38,9 +40,9 @@ const VALUE_MOST: u32 = SEMAPHORE_MOST as u32;
 fn locks_good(s: &[u8]) -> usize
     ensures { (result ≡ locks_format.good (drop settings_at s.now)) × (result ≤ locks_format.size) }
 {
-    let a = any_fields(s, SETTINGS_AT, SETTINGS, 2);
-    let b = fields(s, MUTEXES_AT, MUTEXES, 1, MUTEX_MOST);
-    let c = fields(s, SEMAPHORES_AT, SEMAPHORE_NUMBERS, 1, VALUE_MOST);
+    let a = fields::<2>(s, SETTINGS_AT, SETTINGS, SETTING_MOST);
+    let b = fields::<1>(s, MUTEXES_AT, MUTEXES, MUTEX_MOST);
+    let c = fields::<1>(s, SEMAPHORES_AT, SEMAPHORE_NUMBERS, VALUE_MOST);
     good_across(good_across(a, TO_MUTEXES, b), TO_SEMAPHORES, c)
 }
 
@@ -58,8 +60,8 @@ fn waits_good(s: &[u8]) -> usize
 fn banks_good(s: &[u8]) -> usize
     ensures { (result ≡ banks_format.good (drop owners_at s.now)) × (result ≤ banks_format.size) }
 {
-    let a = fields(s, OWNERS_AT, BANK_OWNERS, 1, 1);
-    let b = fields(s, POINTERS_AT, BANK_POINTERS, 1, 1);
+    let a = fields::<1>(s, OWNERS_AT, BANK_OWNERS, 1);
+    let b = fields::<1>(s, POINTERS_AT, BANK_POINTERS, 1);
     good_across(a, BANK_OWNERS, b)
 }
 

@@ -3,8 +3,8 @@
 
 ghost use Rattle.std.specs.Prelude.{◌≡◌, ◌≤◌};
 ghost use Rattle.format.specs.Places.{place_most};
-ghost use Rattle.format.specs.Format.{accepts};
 ghost use Rattle.image_layout.specs.Image.{bodies};
+ghost use Rattle.image_layout.specs.Sound.{scanned};
 
 mod control;
 mod stores;
@@ -17,13 +17,6 @@ use image_layout::{CONFIG_BODY_AT, DEST_AT, GPRS_AT, IMAGE_BYTES, SRC_A_AT};
 const DEST_BYTES: usize = SRC_A_AT - DEST_AT;
 
 const PAST_CONFIG: usize = IMAGE_BYTES - DEST_AT;
-
-// The offset of the first field missing, cut or out of range, or the image's size; and whether all is there, in range, and no more.
-#[derive(Clone, Copy)]
-pub struct Scanned {
-    pub good: usize,
-    pub sound: bool,
-}
 
 // How far an image is good. Internal: the image's size is a small number.
 fn image_good(s: &[u8], kind: u32, words: usize) -> usize
@@ -40,13 +33,17 @@ fn image_good(s: &[u8], kind: u32, words: usize) -> usize
     good_across(b, sources_at, crate::stores::sources_good(s, sources_at))
 }
 
-// Scans an image whose Config record is of a kind and has so many words. Internal: its size is a small number.
-pub fn scan(s: &[u8], kind: u32, words: usize) -> Scanned
+// Whether bytes are an image whose Config record is of a kind and has so many words: all is there, in range, and no more; or the
+// offset of the first field missing, cut or out of range, or the image's size. Internal: its size is a small number.
+pub fn scan(s: &[u8], kind: u32, words: usize) -> Result<(), usize>
     requires { (bodies kind words).size ≤ place_most }
-    ensures { (result.good ≡ (bodies kind words).good s.now) × (result.sound ≡ accepts (bodies kind words) s.now) }
+    ensures { result ≡ scanned (bodies kind words) s.now }
 {
     let size = CONFIG_BODY_AT + words * 4 + PAST_CONFIG;
     let good = image_good(s, kind, words);
-    let sound = bits::both(s.len() == size, good == size);
-    Scanned { good, sound }
+    if s.len() == size && good == size {
+        Ok(())
+    } else {
+        Err(good)
+    }
 }

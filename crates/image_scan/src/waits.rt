@@ -20,6 +20,7 @@ fn kind_at(s: &[u8], at: usize) -> u32
 }
 
 // The largest low field of a wait of a kind.
+#[tactic(auto, unfolding(image_layout::specs::Control::low_most))]
 fn low_most(k: u32) -> u32
     ensures { result ≡ low_most k }
 {
@@ -36,8 +37,8 @@ pub(crate) fn thread_good(s: &[u8], at: usize) -> usize
     ensures { (result ≡ thread_format.good (drop at s.now)) × (result ≤ wait_size) }
 {
     let k = kind_at(s, at);
-    let a = field(s, at, 1, 0, 2);
-    let b = field(s, at + 1, 2, 0, most_after(k, WAIT_BLOCK_MOST));
-    let l = field(s, at + 3, 2, 0, most_after(k, low_most(k)));
+    let a = field::<1>(s, at, 0, 2);
+    let b = field::<2>(s, at + 1, 0, most_after(k, WAIT_BLOCK_MOST));
+    let l = field::<2>(s, at + 3, 0, most_after(k, low_most(k)));
     good_across(a, 1, good_across(b, 2, l))
 }

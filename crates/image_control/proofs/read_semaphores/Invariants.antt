@@ -1,4 +1,3 @@
-use Prim.Native.Nat.{◌-◌}
 use Rattle.machine.specs.Sizes.{semaphore_count}
 use Rattle.format.proofs.Runs.{Reading}
 use Rattle.image_layout.specs.Control.{semaphore_format}
@@ -6,7 +5,4 @@ use Rattle.image_layout.specs.Places.{semaphores_at}
 use Rattle.image_control.proofs.read_semaphores.Given as goal
 
 abbrev pub invariant-loop-i : goal.invariant-loop-i
-invariant-loop-i l = Reading semaphore_format.get 2 l.s semaphores_at semaphore_count l.all l.p l.i
-
-abbrev pub decreases-loop-i : goal.decreases-loop-i
-decreases-loop-i l = semaphore_count - l.i
+invariant-loop-i l = Reading semaphore_format.get 2 l.s semaphores_at semaphore_count l.all l.i

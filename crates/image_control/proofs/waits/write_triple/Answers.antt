@@ -8,5 +8,5 @@ returns c =
     let at = c.args.at in
     wrote_to _ (omega arith)
     (wrote_next (omega arith) c.write.ensures
-    (λ h. wrote_next h c.write_half.ensures
-    (λ _. wrote_from (at + 3) (omega arith) c.write-2.ensures)))
+    (λ h. wrote_next h c.write-2.ensures
+    (λ _. wrote_from (at + 3) (omega arith) c.write-3.ensures)))

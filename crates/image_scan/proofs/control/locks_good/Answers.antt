@@ -16,4 +16,4 @@ returns c =
     let pairs = pairs_good (num_good 1 0 semaphore_most) 1 (num_le 1 0 semaphore_most) semaphore_count (drop semaphores_at s) in
     let three = three_good settings mutexes (many semaphore_count semaphore_format) settings_at s in
     let parts = three c.good_across-2.ensures.0 c.good_across.ensures.0 in
-    (parts c.any_fields-a.ensures.0 c.fields-b.ensures.0 (c.fields-c.ensures.0 ∙ sym pairs), omega arith)
+    (parts c.fields-a.ensures.0 c.fields-b.ensures.0 (c.fields-c.ensures.0 ∙ sym pairs), omega arith)

@@ -8,4 +8,4 @@ pub returns : goal.returns
 returns c =
     let a = c.args in
     let good = both_good gprs_record (config_record a.kind a.words) gprs_at a.s.now in
-    (good c.good_across.ensures.0 c.any_record-a.ensures.0 c.any_record-b.ensures.0, omega arith)
+    (good c.good_across.ensures.0 c.record-a.ensures.0 c.record-b.ensures.0, omega arith)
