@@ -15,8 +15,8 @@ ghost use Rattle.word_rules.specs.CellWords.{trnsp_src_b_of, mov_b2a_of, zero_ac
 ghost use Rattle.word_rules.specs.Offered.{left, store_offer};
 
 use crate::face::transpose_face;
-use crate::fields::{mode, no_addr_mod, place, place_fine, wide};
-use crate::marks::zero_marks;
+use crate::fields::{no_addr_mod, place_fine};
+use crate::marks::{Part, zero_marks};
 use crate::rows::copy_rows;
 use machine::places::row_place;
 use machine::refusal::{Outcome, StallCause};
@@ -85,6 +85,6 @@ pub fn zero_acc(
         return outcome;
     }
     let bank = bank_of(settings, t);
-    zero_marks(marks, config, bank, mode(word), wide(word), place(word));
+    zero_marks(marks, config, bank, Part::of(word));
     Outcome::Passed
 }

@@ -1,12 +1,14 @@
 // ZEROACC: the valid marks of Dest's storage rows, cleared by rows of a view.
-ghost use Rattle.std.specs.Prelude.{◌≡◌, ◌+◌, ◌*◌, ◌/◌, ◌≤◌, ◌<◌, false, length, replicate};
+ghost use Rattle.std.specs.Prelude.{◌≡◌, ◌+◌, ◌*◌, ◌/◌, ◌≤◌, ◌<◌, true, false, length, replicate};
 ghost use Rattle.machine.specs.Sizes.{config_banks, mark_count};
+ghost use Rattle.bits.specs.Field.{field, flag};
 ghost use Rattle.bits.specs.Overwrite.{over};
 ghost use Rattle.word_rules.specs.Marks.{view_rows, clear_row16, clear_row32, clear_row, clear_rows, RowsCleared};
 ghost use Rattle.word_rules.specs.InRange.{PlaceInView};
 ghost use Rattle.dest.specs.Rows.{rows16};
-ghost use Rattle.word_rules.specs.CellWords.{flags_in, first_row, row_count, after_zero_acc};
+ghost use Rattle.word_rules.specs.CellWords.{flags_in, first_row, row_count, after_zero_acc, place_in_rows};
 
+use crate::fields::{mode, place, wide};
 use dest::flags::{FLAG_WORD, Flags, flags_of};
 use dest::maps::{high_row, low_row, storage_row};
 use dest::rows::{View16Row, View32Row};
@@ -14,28 +16,51 @@ use machine::places::config_place;
 use machine::sizes::{CONFIG_WORDS, DEST_ROWS};
 use word_rules::views::view_rows;
 
-// The first view row that a mode clears.
-fn first_row(mode: u8, wide: bool, place: u16) -> u16
-    requires { PlaceInView mode wide place }
-    ensures { result ≡ first_row mode wide place }
-{
-    match mode {
-        0 => place,
-        1 => 16 * place,
-        2 => view_rows(wide) / 2 * place,
-        _ => 0,
-    }
+// What a ZEROACC clears: by its mode a part of a view, at a place that lies in it.
+#[derive(Clone, Copy)]
+pub(crate) struct Part {
+    mode: u8,
+    wide: bool,
+    place: u16,
+    ghost in_view: { PlaceInView mode wide place },
 }
 
-// How many view rows a mode clears.
-fn row_count(mode: u8, wide: bool) -> u16
-    ensures { result ≡ row_count mode wide }
-{
-    match mode {
-        0 => 1,
-        1 => 16,
-        2 => view_rows(wide) / 2,
-        _ => view_rows(wide),
+impl Part {
+    // The part that a word names. Internal: its place lies in its view.
+    #[tactic(auto, using(word_rules::proofs::Saying::place_in_view))]
+    pub(crate) fn of(word: u32) -> Self
+        requires { place_in_rows (view_rows (flag 18 word)) (field 19 2 word) (field 0 14 word) ≡ true }
+        ensures { (result.mode ≡ field 19 2 word) × (result.wide ≡ flag 18 word) × (result.place ≡ field 0 14 word) }
+    {
+        Part {
+            mode: mode(word),
+            wide: wide(word),
+            place: place(word),
+        }
+    }
+
+    // Its first view row.
+    fn first_row(self) -> u16
+        ensures { result ≡ first_row self.mode self.wide self.place }
+    {
+        match self.mode {
+            0 => self.place,
+            1 => 16 * self.place,
+            2 => view_rows(self.wide) / 2 * self.place,
+            _ => 0,
+        }
+    }
+
+    // How many view rows it has.
+    fn row_count(self) -> u16
+        ensures { result ≡ row_count self.mode self.wide }
+    {
+        match self.mode {
+            0 => 1,
+            1 => 16,
+            2 => view_rows(self.wide) / 2,
+            _ => view_rows(self.wide),
+        }
     }
 }
 
@@ -89,30 +114,29 @@ fn clear_marks(marks: &mut [bool; DEST_ROWS], first: u16, count: u16)
     marks[first as usize..(first + count) as usize].fill(false);
 }
 
-// ZEROACC. Internal: the numbers are in range.
+// ZEROACC. Internal: the bank is in range.
 pub(crate) fn zero_marks(
     marks: &mut [bool; DEST_ROWS],
     config: &[u32; CONFIG_WORDS],
     bank: usize,
-    mode: u8,
-    wide: bool,
-    place: u16,
+    part: Part,
 )
-    requires { (bank < config_banks) × PlaceInView mode wide place }
-    ensures whole { marks.new ≡ after_zero_acc bank mode wide place config.now marks.old }
-    ensures rows { RowsCleared wide (flags_in bank config.now) (first_row mode wide place) (row_count mode wide) marks.old marks.new }
-    ensures half { mode ≡ 2 → marks.new ≡ over marks.old (mark_count / 2 * place) (replicate (mark_count / 2) false) }
-    ensures all { mode ≡ 3 → marks.new ≡ replicate mark_count false }
+    requires { bank < config_banks }
+    ensures whole { marks.new ≡ after_zero_acc bank part.mode part.wide part.place config.now marks.old }
+    ensures rows { RowsCleared part.wide (flags_in bank config.now) (first_row part.mode part.wide part.place) (row_count part.mode part.wide) marks.old marks.new }
+    ensures half { part.mode ≡ 2 → marks.new ≡ over marks.old (mark_count / 2 * part.place) (replicate (mark_count / 2) false) }
+    ensures all { part.mode ≡ 3 → marks.new ≡ replicate mark_count false }
 {
-    if mode < 2 {
+    if part.mode < 2 {
         let flags = flags_of(config[config_place(bank, FLAG_WORD)]);
-        let first = first_row(mode, wide, place);
-        let count = row_count(mode, wide);
-        clear_rows(marks, flags, wide, first, count);
+        clear_rows(marks, flags, part.wide, part.first_row(), part.row_count());
         return;
     }
     // half of either view is that half of storage, whatever the maps, and all is all
-    let first = first_row(mode, false, place);
-    let count = row_count(mode, false);
-    clear_marks(marks, first, count);
+    let stored = Part {
+        mode: part.mode,
+        wide: false,
+        place: part.place,
+    };
+    clear_marks(marks, stored.first_row(), stored.row_count());
 }

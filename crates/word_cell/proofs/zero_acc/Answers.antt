@@ -9,5 +9,5 @@ returns-in-Some c owned bankA bankB k =
 pub returns : goal.returns
 unfolding cell_after
 returns c owned bankA bankB k =
-    rw (c.zero_marks.ensures.whole, c.place.ensures, c.wide.ensures, c.mode.ensures, c.bank_of-bank.ensures, ← c.no_addr_mod.ensures, ← c.place_fine.ensures)
+    rw (c.zero_marks.ensures.whole, c.of.ensures.0, c.of.ensures.1, c.of.ensures.2, c.bank_of-bank.ensures, ← c.no_addr_mod.ensures, ← c.place_fine.ensures)
     (store_going _ _ _ owned _ bankA bankB _ _ _ c.in_default.ensures)

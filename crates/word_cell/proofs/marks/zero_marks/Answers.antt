@@ -3,13 +3,14 @@ use Rattle.word_rules.proofs.PartsCleared.{part_filled, in_either_view, mode_2_c
 use Rattle.word_rules.proofs.MarkLaws.{rows_in_view, rows_cleared}
 use Rattle.word_cell.proofs.marks.zero_marks.Goals as goal
 
-pub returns-then-mode-lt2-clause-rows : goal.returns-then-mode-lt2-clause-rows
-returns-then-mode-lt2-clause-rows c =
-    rw (c.clear_rows.ensures, c.row_count-count.ensures, c.first_row-first.ensures, c.flags_of-flags.ensures, c.config_place.ensures) (rows_cleared _ _ _ _ _)
+pub returns-then-part-lt2-clause-rows : goal.returns-then-part-lt2-clause-rows
+returns-then-part-lt2-clause-rows c =
+    rw (c.clear_rows.ensures, c.row_count.ensures, c.first_row.ensures, c.flags_of-flags.ensures, c.config_place.ensures) (rows_cleared _ _ _ _ _)
 
 pub returns : goal.returns
 returns c =
     let a = c.args in
-    let room = rows_in_view _ _ _ (in_either_view (omega arith) c.requires.1) in
-    rw (c.clear_marks.ensures, c.row_count-count-2.ensures, c.first_row-first-2.ensures, ← part_filled a.bank a.config.now a.marks.now c.requires.1 (omega arith) (omega arith) room)
-    (record { whole = refl; rows = rows_cleared _ _ _ _ _; half = mode_2_clears_half a.bank a.config.now a.marks.now c.requires.1 (omega arith); all = mode_3_clears_all a.bank a.config.now a.marks.now c.requires.1 (omega arith) })
+    let p = a.part.in_view in
+    let room = rows_in_view _ _ _ (in_either_view (omega arith) p) in
+    rw (c.clear_marks.ensures, c.row_count-2.ensures, c.first_row-2.ensures, ← part_filled a.bank a.config.now a.marks.now p (omega arith) (omega arith) room)
+    (record { whole = refl; rows = rows_cleared _ _ _ _ _; half = mode_2_clears_half a.bank a.config.now a.marks.now p (omega arith); all = mode_3_clears_all a.bank a.config.now a.marks.now p (omega arith) })
