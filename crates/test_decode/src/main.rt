@@ -4,22 +4,10 @@
 
 mod names;
 
+use crate::names::Named;
 use format::number::read;
-use machine::refusal::refusal_number;
 use program_io::read_full;
 use std::io;
-use word_decode::Decoded;
-
-fn print_line(rt: &HostRuntime, decoded: Decoded) -> io::Result<()> {
-    match decoded {
-        Decoded::Decodes(instruction) => names::print(rt, instruction)?,
-        Decoded::Refused(r) => {
-            rt.write_all(b"refused ")?;
-            rt.print(refusal_number(r) as u64)?;
-        }
-    }
-    rt.write_all(b"\n")
-}
 
 // Reads one word and prints its line, and answers whether there was one.
 fn one_word(rt: &HostRuntime) -> io::Result<bool> {
@@ -28,7 +16,10 @@ fn one_word(rt: &HostRuntime) -> io::Result<bool> {
     if got < 4 {
         return Ok(false);
     }
-    print_line(rt, word_decode::decode(read(&bytes, 0, 4)))?;
+    match word_decode::decode(read::<4>(&bytes, 0)) {
+        Ok(instruction) => println!(rt; "{}", Named(instruction))?,
+        Err(r) => println!(rt; "refused {}", u32::from(r))?,
+    }
     Ok(true)
 }
 

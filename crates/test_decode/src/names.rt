@@ -1,182 +1,114 @@
-// What is printed of an instruction: its published name, then its fields.
-use std::io;
+// What is printed of an instruction: its published name, then its fields; of a flag 0 or 1.
+use std::fmt::{Display, Formatter, Result, Write};
 use word_rules::instruction::{
     BankWord, CellWord, ConfigWord, Instruction, Operand, ScalarWord, SyncWord,
 };
 
-fn name(rt: &HostRuntime, text: &[u8]) -> io::Result<()> {
-    rt.write_all(text)
-}
+// An instruction or a part of one, as it is printed here.
+#[derive(Drop)]
+pub(crate) struct Named<T>(pub T);
 
-fn field(rt: &HostRuntime, n: u32) -> io::Result<()> {
-    rt.write_all(b" ")?;
-    rt.print(n as u64)
-}
-
-fn flag(rt: &HostRuntime, on: bool) -> io::Result<()> {
-    if on {
-        return field(rt, 1);
-    }
-    field(rt, 0)
-}
-
-fn operand(rt: &HostRuntime, b: Operand) -> io::Result<()> {
-    match b {
-        Operand::Constant(n) => {
-            name(rt, b" constant")?;
-            field(rt, n as u32)
-        }
-        Operand::Register(g) => {
-            name(rt, b" register")?;
-            field(rt, g.0 as u32)
+impl Display for Named<Operand> {
+    fn fmt<W: Write>(&self, f: &mut Formatter<W>) -> Result {
+        match self.0 {
+            Operand::Constant(n) => write!(f, "constant {n}"),
+            Operand::Register(g) => write!(f, "register {}", g.0),
         }
     }
 }
 
-fn print_scalar(rt: &HostRuntime, word: ScalarWord) -> io::Result<()> {
-    match word {
-        ScalarWord::SetDmaReg { half, value } => {
-            name(rt, b"SETDMAREG")?;
-            field(rt, value as u32)?;
-            field(rt, half.0 as u32)
-        }
-        ScalarWord::AddDmaReg { result, a, b } => {
-            name(rt, b"ADDDMAREG")?;
-            field(rt, result.0 as u32)?;
-            operand(rt, b)?;
-            field(rt, a.0 as u32)
-        }
-        ScalarWord::MulDmaReg { result, a, b } => {
-            name(rt, b"MULDMAREG")?;
-            field(rt, result.0 as u32)?;
-            operand(rt, b)?;
-            field(rt, a.0 as u32)
-        }
-        ScalarWord::DmaNop => name(rt, b"DMANOP"),
-    }
-}
-
-fn print_sync(rt: &HostRuntime, word: SyncWord) -> io::Result<()> {
-    match word {
-        SyncWord::AtGetM { mutex } => {
-            name(rt, b"ATGETM")?;
-            field(rt, mutex as u32)
-        }
-        SyncWord::AtRelM { mutex } => {
-            name(rt, b"ATRELM")?;
-            field(rt, mutex as u32)
-        }
-        SyncWord::StallWait { block, conditions } => {
-            name(rt, b"STALLWAIT")?;
-            field(rt, block as u32)?;
-            field(rt, conditions)
-        }
-        SyncWord::SemInit {
-            maximum,
-            value,
-            mask,
-        } => {
-            name(rt, b"SEMINIT")?;
-            field(rt, maximum as u32)?;
-            field(rt, value as u32)?;
-            field(rt, mask as u32)
-        }
-        SyncWord::SemPost { mask } => {
-            name(rt, b"SEMPOST")?;
-            field(rt, mask as u32)
-        }
-        SyncWord::SemGet { mask } => {
-            name(rt, b"SEMGET")?;
-            field(rt, mask as u32)
-        }
-        SyncWord::SemWait {
-            block,
-            mask,
-            condition,
-        } => {
-            name(rt, b"SEMWAIT")?;
-            field(rt, block as u32)?;
-            field(rt, mask as u32)?;
-            field(rt, condition as u32)
+impl Display for Named<ScalarWord> {
+    fn fmt<W: Write>(&self, f: &mut Formatter<W>) -> Result {
+        match self.0 {
+            ScalarWord::SetDmaReg { half, value } => write!(f, "SETDMAREG {value} {}", half.0),
+            ScalarWord::AddDmaReg { result, a, b } => {
+                write!(f, "ADDDMAREG {} {} {}", result.0, Named(b), a.0)
+            }
+            ScalarWord::MulDmaReg { result, a, b } => {
+                write!(f, "MULDMAREG {} {} {}", result.0, Named(b), a.0)
+            }
+            ScalarWord::DmaNop => write!(f, "DMANOP"),
         }
     }
 }
 
-fn print_config(rt: &HostRuntime, word: ConfigWord) -> io::Result<()> {
-    match word {
-        ConfigWord::WrCfg { gpr, wide, index } => {
-            name(rt, b"WRCFG")?;
-            field(rt, gpr.0 as u32)?;
-            flag(rt, wide)?;
-            field(rt, index as u32)
-        }
-        ConfigWord::RdCfg { gpr, index } => {
-            name(rt, b"RDCFG")?;
-            field(rt, gpr.0 as u32)?;
-            field(rt, index as u32)
-        }
-        ConfigWord::SetC16 { entry, value } => {
-            name(rt, b"SETC16")?;
-            field(rt, entry as u32)?;
-            field(rt, value as u32)
-        }
-        ConfigWord::RmwCib {
-            byte,
-            mask,
-            value,
-            index,
-        } => {
-            name(rt, b"RMWCIB")?;
-            rt.print(byte as u64)?;
-            field(rt, mask as u32)?;
-            field(rt, value as u32)?;
-            field(rt, index as u32)
+impl Display for Named<SyncWord> {
+    fn fmt<W: Write>(&self, f: &mut Formatter<W>) -> Result {
+        match self.0 {
+            SyncWord::AtGetM { mutex } => write!(f, "ATGETM {mutex}"),
+            SyncWord::AtRelM { mutex } => write!(f, "ATRELM {mutex}"),
+            SyncWord::StallWait { block, conditions } => {
+                write!(f, "STALLWAIT {block} {conditions}")
+            }
+            SyncWord::SemInit {
+                maximum,
+                value,
+                mask,
+            } => write!(f, "SEMINIT {maximum} {value} {mask}"),
+            SyncWord::SemPost { mask } => write!(f, "SEMPOST {mask}"),
+            SyncWord::SemGet { mask } => write!(f, "SEMGET {mask}"),
+            SyncWord::SemWait {
+                block,
+                mask,
+                condition,
+            } => write!(f, "SEMWAIT {block} {mask} {condition}"),
         }
     }
 }
 
-fn print_cell(rt: &HostRuntime, word: CellWord) -> io::Result<()> {
-    match word {
-        CellWord::TrnspSrcB => name(rt, b"TRNSPSRCB"),
-        CellWord::MovB2A { row_a, four, row_b } => {
-            name(rt, b"MOVB2A")?;
-            field(rt, row_a as u32)?;
-            flag(rt, four)?;
-            field(rt, row_b as u32)
-        }
-        CellWord::ZeroAcc { mode, wide, place } => {
-            name(rt, b"ZEROACC")?;
-            field(rt, mode as u32)?;
-            flag(rt, wide)?;
-            field(rt, place as u32)
-        }
-    }
-}
-
-fn print_bank(rt: &HostRuntime, word: BankWord) -> io::Result<()> {
-    match word {
-        BankWord::ClearDValid { a, b, keep, reset } => {
-            name(rt, b"CLEARDVALID")?;
-            flag(rt, b)?;
-            flag(rt, a)?;
-            flag(rt, keep)?;
-            flag(rt, reset)
-        }
-        BankWord::SetDValid { a, b } => {
-            name(rt, b"SETDVALID")?;
-            flag(rt, b)?;
-            flag(rt, a)
+impl Display for Named<ConfigWord> {
+    fn fmt<W: Write>(&self, f: &mut Formatter<W>) -> Result {
+        match self.0 {
+            ConfigWord::WrCfg { gpr, wide, index } => {
+                write!(f, "WRCFG {} {} {index}", gpr.0, wide as u8)
+            }
+            ConfigWord::RdCfg { gpr, index } => write!(f, "RDCFG {} {index}", gpr.0),
+            ConfigWord::SetC16 { entry, value } => write!(f, "SETC16 {entry} {value}"),
+            ConfigWord::RmwCib {
+                byte,
+                mask,
+                value,
+                index,
+            } => write!(f, "RMWCIB{byte} {mask} {value} {index}"),
         }
     }
 }
 
-pub(crate) fn print(rt: &HostRuntime, instruction: Instruction) -> io::Result<()> {
-    match instruction {
-        Instruction::Nop => name(rt, b"NOP"),
-        Instruction::Cell(word) => print_cell(rt, word),
-        Instruction::Bank(word) => print_bank(rt, word),
-        Instruction::Scalar(word) => print_scalar(rt, word),
-        Instruction::Sync(word) => print_sync(rt, word),
-        Instruction::Config(word) => print_config(rt, word),
+impl Display for Named<CellWord> {
+    fn fmt<W: Write>(&self, f: &mut Formatter<W>) -> Result {
+        match self.0 {
+            CellWord::TrnspSrcB => write!(f, "TRNSPSRCB"),
+            CellWord::MovB2A { row_a, four, row_b } => {
+                write!(f, "MOVB2A {row_a} {} {row_b}", four as u8)
+            }
+            CellWord::ZeroAcc { mode, wide, place } => {
+                write!(f, "ZEROACC {mode} {} {place}", wide as u8)
+            }
+        }
+    }
+}
+
+impl Display for Named<BankWord> {
+    fn fmt<W: Write>(&self, f: &mut Formatter<W>) -> Result {
+        match self.0 {
+            BankWord::ClearDValid { a, b, keep, reset } => {
+                let (a, b, keep, reset) = (a as u8, b as u8, keep as u8, reset as u8);
+                write!(f, "CLEARDVALID {b} {a} {keep} {reset}")
+            }
+            BankWord::SetDValid { a, b } => write!(f, "SETDVALID {} {}", b as u8, a as u8),
+        }
+    }
+}
+
+impl Display for Named<Instruction> {
+    fn fmt<W: Write>(&self, f: &mut Formatter<W>) -> Result {
+        match self.0 {
+            Instruction::Nop => write!(f, "NOP"),
+            Instruction::Cell(word) => Named(word).fmt(f),
+            Instruction::Bank(word) => Named(word).fmt(f),
+            Instruction::Scalar(word) => Named(word).fmt(f),
+            Instruction::Sync(word) => Named(word).fmt(f),
+            Instruction::Config(word) => Named(word).fmt(f),
+        }
     }
 }
