@@ -3,17 +3,14 @@ ghost use Rattle.std.specs.Prelude.{◌≡◌, ◌+◌, ◌≤◌, ◌<◌, leng
 ghost use Rattle.word_rules.specs.Face.{row_at, face_at, column_of, transposed, with_rows, face_transposed, CellsTransposed};
 
 use bits::copy::copy_words;
+use std::array::from_fn;
 
 // The 16 cells from place `at` on.
 fn row_at(s: &[u32], at: usize) -> [u32; 16]
     requires { at + 16 ≤ length s.now }
     ensures { result ≡ row_at at s.now }
 {
-    let mut row = [0; 16];
-    for c in 0..16 {
-        row[c] = s[at + c];
-    }
-    row
+    from_fn(|c| s[at + c])
 }
 
 // The 16 rows from place `at` on.
@@ -33,11 +30,7 @@ fn column_of(face: &[[u32; 16]; 16], c: usize) -> [u32; 16]
     requires { c < 16 }
     ensures { result ≡ column_of face.now c }
 {
-    let mut column = [0; 16];
-    for r in 0..16 {
-        column[r] = face[r][c];
-    }
-    column
+    from_fn(|r| face[r][c])
 }
 
 // The rows of the new face are the columns of the old.

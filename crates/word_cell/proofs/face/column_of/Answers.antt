@@ -1,11 +1,7 @@
-use Rattle.std.proofs.Common.{sym, ◌∙◌, refl, arith, length-set}
-use Rattle.bits.proofs.Values.{fill_step, fill_end}
+use Rattle.std.proofs.Common.{rules}
+use Rattle.word_rules.specs.Face.{cell_of}
+use Rattle.word_cell.proofs.Made.{from_fn_values}
 use Rattle.word_cell.proofs.face.column_of.Goals as goal
 
-pub loop-r-preserved : goal.loop-r-preserved
-loop-r-preserved c =
-    let long = c.loop-r.invariant.0 in
-    (simp length-set long, fill_step _ _ _ _ _ refl c.loop-r-test.true long ∙ c.loop-r.invariant.1)
-
 pub returns : goal.returns
-returns c = sym (fill_end _ _ _ _ c.loop-r-test.false (omega arith) c.loop-r.invariant.0) ∙ c.loop-r.invariant.1
+returns c = from_fn_values _ _ (λ k. cell_of c.args.face.now k c.args.c) (λ i y q k. search rules) _ 0 16 c.from_fn.ensures.items

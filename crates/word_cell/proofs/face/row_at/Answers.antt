@@ -1,11 +1,6 @@
-use Rattle.std.proofs.Common.{sym, ◌∙◌, refl, arith, length-set}
-use Rattle.bits.proofs.Values.{fill_step, fill_end}
+use Rattle.std.proofs.Common.{◌+◌, get_or, rules}
+use Rattle.word_cell.proofs.Made.{from_fn_values}
 use Rattle.word_cell.proofs.face.row_at.Goals as goal
 
-pub loop-c-preserved : goal.loop-c-preserved
-loop-c-preserved c =
-    let long = c.loop-c.invariant.0 in
-    (simp length-set long, fill_step _ _ _ _ _ refl c.loop-c-test.true long ∙ c.loop-c.invariant.1)
-
 pub returns : goal.returns
-returns c = sym (fill_end _ _ _ _ c.loop-c-test.false (omega arith) c.loop-c.invariant.0) ∙ c.loop-c.invariant.1
+returns c = from_fn_values _ _ (λ k. get_or c.args.s.now (c.args.at + k) 0) (λ i y q k. search rules) _ 0 16 c.from_fn.ensures.items
