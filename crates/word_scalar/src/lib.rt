@@ -50,7 +50,7 @@ pub fn arithmetic(
 }
 
 // DMANOP.
-pub fn dma_nop(gprs: &[u32; GPRS], t: ThreadNumber, word: u32, blocks: u16) -> Outcome
+pub fn dma_nop(gprs: &[u32], t: ThreadNumber, word: u32, blocks: u16) -> Outcome
     ensures { GprsOffered blocks t (dma_nop_of word) gprs.now (told_outcome result) gprs.now }
 {
     held_up::<5>(true, true, blocks).unwrap_or(Outcome::Passed)
