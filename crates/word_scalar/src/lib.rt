@@ -11,10 +11,10 @@ ghost use Rattle.word_rules.specs.Offered.{GprsOffered};
 ghost use Rattle.word_scalar.specs.Arithmetic.{arithmetic_of};
 
 use crate::fields::{half, is_plain, operand_a, operand_b, result, value};
-use crate::registers::{combined, operand_of, write_half_register};
+use crate::registers::{combined, operand_of, with_half};
 use machine::refusal::Outcome;
 use machine::sizes::GPRS;
-use machine::units::{ThreadNumber, gpr_place};
+use machine::units::{ThreadNumber, gpr_place, half_place};
 use word_rules::verdict::held_up;
 
 // SETDMAREG, where the wait of the thread stalls these block bits now.
@@ -24,7 +24,9 @@ pub fn set_dma_reg(gprs: &mut [u32; GPRS], t: ThreadNumber, word: u32, blocks: u
     if let Some(outcome) = held_up::<5>(is_plain(word), true, blocks) {
         return outcome;
     }
-    write_half_register(gprs, t, half(word), value(word));
+    let half = half(word);
+    let place = half_place(t, half);
+    gprs[place] = with_half(half, value(word), gprs[place]);
     Outcome::Passed
 }
 
@@ -48,7 +50,7 @@ pub fn arithmetic(
 }
 
 // DMANOP.
-pub fn dma_nop(gprs: &[u32; GPRS], t: ThreadNumber, word: u32, blocks: u16) -> Outcome
+pub fn dma_nop(gprs: &[u32], t: ThreadNumber, word: u32, blocks: u16) -> Outcome
     ensures { GprsOffered blocks t (dma_nop_of word) gprs.now (told_outcome result) gprs.now }
 {
     held_up::<5>(true, true, blocks).unwrap_or(Outcome::Passed)

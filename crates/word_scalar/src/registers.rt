@@ -1,16 +1,16 @@
 // What the words of the scalar unit write into a thread's own GPRs.
-ghost use Rattle.std.specs.Prelude.{◌≡◌, ◌<◌};
+ghost use Rattle.std.specs.Prelude.{◌≡◌};
 ghost use Rattle.word_rules.specs.InRange.{OperandInRange};
-ghost use Rattle.word_rules.specs.ScalarWords.{operand_of, with_half, after_set_dma_reg};
+ghost use Rattle.word_rules.specs.ScalarWords.{operand_of, with_half};
 ghost use Rattle.word_scalar.specs.Arithmetic.{combined_of};
 
 use bits::word::field;
 use machine::sizes::GPRS;
-use machine::units::{HalfRegister, ThreadNumber, gpr_place, half_place};
+use machine::units::{HalfRegister, ThreadNumber, gpr_place};
 use word_rules::instruction::Operand;
 
-// A word with one of its halves replaced.
-fn with_half(half: HalfRegister, value: u16, x: u32) -> u32
+// SETDMAREG: a word with one of its halves replaced.
+pub(crate) fn with_half(half: HalfRegister, value: u16, x: u32) -> u32
     ensures { result ≡ with_half half value x }
 {
     if half.is_high() {
@@ -19,21 +19,7 @@ fn with_half(half: HalfRegister, value: u16, x: u32) -> u32
     x / 65536 * 65536 + value as u32
 }
 
-// SETDMAREG. Internal, as below: the numbers are in range.
-pub(crate) fn write_half_register(
-    gprs: &mut [u32; GPRS],
-    t: ThreadNumber,
-    half: HalfRegister,
-    value: u16,
-)
-    requires { half.0 < 128 }
-    ensures { gprs.new ≡ after_set_dma_reg t half value gprs.old }
-{
-    let place = half_place(t, half);
-    gprs[place] = with_half(half, value, gprs[place]);
-}
-
-// The second operand of ADDDMAREG and MULDMAREG.
+// The second operand of ADDDMAREG and MULDMAREG. Internal: its number is in range.
 pub(crate) fn operand_of(gprs: &[u32; GPRS], t: ThreadNumber, b: Operand) -> u32
     requires { OperandInRange b }
     ensures { result ≡ operand_of t b gprs.now }

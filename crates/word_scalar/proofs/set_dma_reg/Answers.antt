@@ -10,5 +10,5 @@ returns-in-Some c owned bankA bankB s k =
 pub returns : goal.returns
 unfolding scalar_after
 returns c owned bankA bankB s k =
-    rw (c.write_half_register.ensures, c.value.ensures, c.half.ensures, ← c.is_plain.ensures)
+    rw (c.with_half.ensures, c.half_place-place.ensures, c.value.ensures, c.half-half.ensures, ← c.is_plain.ensures)
     (store_going c.is_plain.result true _ owned _ bankA bankB _ s _ c.in_default.ensures)
