@@ -13,7 +13,7 @@ use Rattle.machine.specs.Outcomes.{Progress, told_outcome}
 use Rattle.word_rules.specs.declared.stepped.Stepped.{Stepped}
 use Rattle.word_rules.specs.declared.instruction.Instruction.{Instruction}
 use Rattle.word_rules.specs.declared.instruction.Instruction.TheVariants.{Nop, Cell, Bank, Scalar, Sync, Config}
-use Rattle.word_rules.specs.Table.{control_rows, store_rows, has, said}
+use Rattle.word_rules.specs.Table.{control_rows, store_rows, has, said, decode_of}
 use Rattle.word_rules.specs.Waits.{held_by, Gate, Open, Closed, named_by, own_gate, gate_of}
 use Rattle.word_rules.specs.After.{word_after, control_after, settings_after, stores_after}
 use Rattle.word_rules.specs.Offered.{gate_outcome, if_open, wait_first, with_cause, lifted_now, blocks_now, cause_in, ControlStep, came, told_stepped, dropped_if, dropped_on, control_gate, control_offer, owner_gate, store_gate, StoreStep, left, store_offer}
@@ -112,20 +112,26 @@ module _ (c : Control) (s : List ℕ) (k : Stores) (t blocks cause : ℕ) (drops
       ap (λ (z : StoreStep). stepped (with_cause cause z.outcome) (machine_with (dropped_on (with_cause cause z.outcome) c t drops) z.settings z.kept)) p
       ∙ (stores_at i g y ∙ at_gate whole t i (told_gate cause g) e)
 
-  -- a word offered, by whether it works on the control part
-  module _ (w : ℕ) (b : Bool) (eo : b ≡ has control_rows (field 24 8 w)) where
-    pub offer_on_control : b ≡ true → (r : Stepped) → told_stepped r ≡ control_offer blocks drops c t (said control_rows (field 24 8 w) w) →
+  -- a word offered, by whether its opcode works on the control part
+  module _ (w op : ℕ) (ew : op ≡ field 24 8 w) (b : Bool) (eo : b ≡ has control_rows op) where
+    on_control_at : b ≡ true → decode_of w ≡ said control_rows op w
+    on_control_at h = rw ew (decode_on_control w (sym (rw ew at eo) ∙ h))
+
+    on_stores_at : b ≡ false → decode_of w ≡ said store_rows op w
+    on_stores_at h = rw ew (decode_on_stores w (sym (rw ew at eo) ∙ h))
+
+    pub offer_on_control : b ≡ true → (r : Stepped) → told_stepped r ≡ control_offer blocks drops c t (said control_rows op w) →
         (o : Told Progress) → o ≡ with_cause cause (told_outcome r.outcome) → stepped o (machine_with r.control s k) ≡ offer_of whole t w
     offer_on_control h r e o p =
         ap (λ (z : Told Progress). stepped z (machine_with r.control s k)) p ∙
-        control_offered (said control_rows (field 24 8 w) w) (control_only (field 24 8 w) w) r e
-        ∙ offered_as whole t w (said control_rows (field 24 8 w) w) (decode_on_control w (sym eo ∙ h))
+        control_offered (said control_rows op w) (control_only op w) r e
+        ∙ offered_as whole t w (said control_rows op w) (on_control_at h)
 
     pub offer_on_stores : b ≡ false → (owned : Bool) → owned ≡ matrix_owns c 1 → (o : Told Progress) (s' : List ℕ) (k' : Stores) →
-        left o s' k' ≡ store_offer blocks owned t (matrix_bank c 0) (matrix_bank c 1) (said store_rows (field 24 8 w) w) s k →
+        left o s' k' ≡ store_offer blocks owned t (matrix_bank c 0) (matrix_bank c 1) (said store_rows op w) s k →
         (r : Stepped) → told_stepped r ≡ came (with_cause cause o) (dropped_on (with_cause cause o) c t drops) →
         stepped (told_outcome r.outcome) (machine_with r.control s' k') ≡ offer_of whole t w
     offer_on_stores h owned q o s' k' p r e =
         ap (λ (z : ControlStep). stepped z.outcome (machine_with z.control s' k')) e
-        ∙ (stores_offered owned q (said store_rows (field 24 8 w) w) (store_only (field 24 8 w) w) o s' k' p
-        ∙ offered_as whole t w (said store_rows (field 24 8 w) w) (decode_on_stores w (sym eo ∙ h)))
+        ∙ (stores_offered owned q (said store_rows op w) (store_only op w) o s' k' p
+        ∙ offered_as whole t w (said store_rows op w) (on_stores_at h))
