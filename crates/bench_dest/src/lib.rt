@@ -1,4 +1,6 @@
 // Whole Dest rows, in the 16-bit and in the 32-bit view. The bench names the Config bank whose flags set the maps.
+// The views share `find_row` and `stored`; the rest is apart, since a row of one lies in one storage row, and of the other in two, with
+// cells of another type: a trait would need each of the four bodies as a method, which is no plainer.
 #![tactic(auto)]
 
 mod stored;

@@ -78,6 +78,7 @@ pub fn write_source_row(
     source_access(control, src_a, src_b, file, row, cells)?;
     let bank = control.pointers[2 + file as usize] as usize;
     let at = row_place(bank, row as usize);
+    // in two branches: the proof doesn't close for a `&mut` that an `if` chooses (the borrow check doesn't cover it)
     if file == 0 {
         put_all(src_a, at, cells);
         return Ok(());

@@ -8,24 +8,15 @@ use lib.Dec.{leb, eqb}
 use lib.ListN.{length, drop, length-drop, length-append}
 use lib.Seq.{drop-append-le}
 use borrow.Author.Tests.{le-leb, leb-true, ne_eqb}
+use Rattle.std.specs.Prelude.{Option, Some, None, Result, Ok, Err}
 use Rattle.bits.specs.Bytes.{le}
 use Rattle.machine.specs.Sizes.{budget_most, word_most}
 use Rattle.format.specs.Format.{head_bytes}
-use Rattle.program_records.specs.declared.head.BodyRead.{BodyRead}
-use Rattle.program_records.specs.declared.head.BodyRead.TheVariants.{Body, NoBody}
-use Rattle.program_records.specs.declared.counts.WordsRecord.{WordsRecord}
-use Rattle.program_records.specs.declared.counts.WordsRecord.TheVariants.{Words, NoWords}
+use Rattle.run_order.specs.declared.cursor.Cursor.{Cursor}
 use Rattle.program_records.specs.declared.counts.Counts.{Counts}
-use Rattle.program_records.specs.declared.counts.CountsRead.{CountsRead}
-use Rattle.program_records.specs.declared.counts.CountsRead.TheVariants.{Counted, NotCounted}
-use Rattle.program_records.specs.declared.fixed.BudgetRecord.{BudgetRecord}
-use Rattle.program_records.specs.declared.fixed.BudgetRecord.TheVariants.{Budget, NoBudget}
-use Rattle.program_records.specs.declared.fixed.CursorRecord.{CursorRecord}
-use Rattle.program_records.specs.declared.fixed.CursorRecord.TheVariants.{Place, NoPlace}
-use Rattle.program_records.specs.declared.script.ScriptRead.{ScriptRead}
-use Rattle.program_records.specs.declared.script.ScriptRead.TheVariants.{Sound, BadAt}
-use Rattle.program_records.specs.declared.resume_script.ResumeRead.{ResumeRead}
-use Rattle.program_records.specs.declared.resume_script.ResumeRead.TheVariants.{Whole, Faulty}
+use Rattle.program_records.specs.declared.script.Script.{Script}
+use Rattle.program_records.specs.declared.resume_script.ResumeScript.{ResumeScript}
+use Rattle.program_records.specs.declared.head.BadRecord.{BadRecord}
 use Rattle.program_records.specs.Head.{words_kind, budget_kind, cursor_kind, body_length, record_kind, body_of, same_body, has_body}
 use Rattle.program_records.specs.Counts.{in_words, words_record_of, past, after_second, after_first, from_start, counts_of, words_end}
 use Rattle.program_records.specs.Fixed.{budget_bytes, cursor_bytes, budget_record_of, cursor_record_of}
@@ -55,11 +46,11 @@ module _ (more : List ℕ) where
       let head : leb head_bytes (length l) ≡ true = le-leb head_bytes (length l) (omega arith) in
       let also : leb head_bytes (length (l ++ more)) ≡ true = le-leb head_bytes (length (l ++ more)) (omega arith) in
       rw (head, also, le_longer 4 l (omega arith), le_at 2 4 l (omega arith))
-      (ap (λ (b : BodyRead). cond (eqb (record_kind l) kind) b NoBody) (go (leb (body_length l) most) refl))
+      (ap (λ (b : Option ℕ). cond (eqb (record_kind l) kind) b None) (go (leb (body_length l) most) refl))
     where
       go : (b : Bool) → leb (body_length l) most ≡ b →
-          cond b (cond (leb (head_bytes + body_length l) (length (l ++ more))) (Body (body_length l)) NoBody) NoBody ≡
-          cond b (cond (leb (head_bytes + body_length l) (length l)) (Body (body_length l)) NoBody) NoBody
+          cond b (cond (leb (head_bytes + body_length l) (length (l ++ more))) (Some (body_length l)) None) None ≡
+          cond b (cond (leb (head_bytes + body_length l) (length l)) (Some (body_length l)) None) None
       go true e =
           let f = leb-true (body_length l) most e in
           let m = longer l in
@@ -98,19 +89,19 @@ module _ (more : List ℕ) where
       rw (has_at cursor_kind 16 at l (omega arith), first, second, third, number_at at (head_bytes + 12) l (omega arith))
 
   module _ (most : ℕ) (l : List ℕ) (room : 3 * (head_bytes + most) ≤ length l) where
-    first_longer : (n0 : ℕ) → 4 * n0 ≤ most → (r : WordsRecord) → r ≡ words_record_of most (words_kind 1) (drop (past 0 n0) l) →
+    first_longer : (n0 : ℕ) → 4 * n0 ≤ most → (r : Option ℕ) → r ≡ words_record_of most (words_kind 1) (drop (past 0 n0) l) →
         after_first most (l ++ more) n0 (past 0 n0) r ≡ after_first most l n0 (past 0 n0) r
-    first_longer n0 h (Words n1) e =
-        let f = few most (words_kind 1) (drop (past 0 n0) l) (Words n1) n1 e refl in
+    first_longer n0 h (Some n1) e =
+        let f = few most (words_kind 1) (drop (past 0 n0) l) (Some n1) n1 e refl in
         ap (after_second n0 n1 (past (past 0 n0) n1)) (words_at_lem most (words_kind 2) (past (past 0 n0) n1) l (omega arith))
-    first_longer n0 h NoWords e = refl
+    first_longer n0 h None e = refl
 
-    start_longer : (r : WordsRecord) → r ≡ words_record_of most (words_kind 0) l → from_start most (l ++ more) r ≡ from_start most l r
-    start_longer (Words n0) e =
-        let f = few most (words_kind 0) l (Words n0) n0 e refl in
+    start_longer : (r : Option ℕ) → r ≡ words_record_of most (words_kind 0) l → from_start most (l ++ more) r ≡ from_start most l r
+    start_longer (Some n0) e =
+        let f = few most (words_kind 0) l (Some n0) n0 e refl in
         rw (words_at_lem most (words_kind 1) (past 0 n0) l (omega arith))
         (first_longer n0 f (words_record_of most (words_kind 1) (drop (past 0 n0) l)) refl)
-    start_longer NoWords e = refl
+    start_longer None e = refl
 
     pub counts_longer : counts_of most (l ++ more) ≡ counts_of most l
     unfolding counts_of words_record_of
@@ -120,62 +111,62 @@ module _ (more : List ℕ) where
   not_end l n h = let m = longer l in ne_eqb (length (l ++ more)) n (λ e. absurd (omega arith))
 
 -- an input that is not sound, whatever stands behind it
-abbrev pub Bad : ScriptRead → Type 0
-Bad (Sound s) = ⊥
-Bad (BadAt n) = Unit
+abbrev pub Bad : Result Script BadRecord → Type 0
+Bad (Ok s) = ⊥
+Bad (Err e) = Unit
 
 module _ (l more : List ℕ) (long : length l ≡ script_most + 1) where
-  ends : (c : Counts) (r : BudgetRecord) → words_end c + budget_bytes < length l →
+  ends : (c : Counts) (r : Option ℕ) → words_end c + budget_bytes < length l →
       (after_budget (l ++ more) c (words_end c) r ≡ after_budget l c (words_end c) r) × Bad (after_budget l c (words_end c) r)
-  ends c (Budget b) h =
+  ends c (Some b) h =
       let n = words_end c + budget_bytes in
       let e : eqb (length l) n ≡ false = ne_eqb (length l) n (λ x. absurd (omega arith)) in
       rw (not_end more l n h, e) (refl, tt)
-  ends c NoBudget h = (refl, tt)
+  ends c None h = (refl, tt)
 
-  after_longer : (r : CountsRead) → counts_of body_most l ≡ r → (after_words (l ++ more) r ≡ after_words l r) × Bad (after_words l r)
-  after_longer (Counted c) e =
+  after_longer : (r : Result Counts BadRecord) → counts_of body_most l ≡ r → (after_words (l ++ more) r ≡ after_words l r) × Bad (after_words l r)
+  after_longer (Ok c) e =
       let f = count_facts body_most l c e in
       let f0 = f.few0 in
       let f1 = f.few1 in
       let f2 = f.few2 in
       rw (budget_at more budget_most (words_end c) l (omega arith))
       (ends c (budget_record_of budget_most (drop (words_end c) l)) (omega arith))
-  after_longer (NotCounted n) e = (refl, tt)
+  after_longer (Err x) e = (refl, tt)
 
   pub script_longer : (script_of (l ++ more) ≡ script_of l) × Bad (script_of l)
   unfolding script_of
   script_longer = rw (counts_longer more body_most l (omega arith)) (after_longer (counts_of body_most l) refl)
 
 -- the same of `resume`
-abbrev pub Unsound : ResumeRead → Type 0
-Unsound (Whole s) = ⊥
-Unsound (Faulty n) = Unit
+abbrev pub Unsound : Result ResumeScript BadRecord → Type 0
+Unsound (Ok s) = ⊥
+Unsound (Err e) = Unit
 
 module _ (l more : List ℕ) (long : length l ≡ resume_script_most + 1) where
-  place_ends : (c : Counts) (b at : ℕ) (r : CursorRecord) → at + cursor_bytes < length l →
+  place_ends : (c : Counts) (b at : ℕ) (r : Option Cursor) → at + cursor_bytes < length l →
       (after_place (l ++ more) c b at r ≡ after_place l c b at r) × Unsound (after_place l c b at r)
-  place_ends c b at (Place p) h =
+  place_ends c b at (Some p) h =
       let e : eqb (length l) (at + cursor_bytes) ≡ false = ne_eqb (length l) (at + cursor_bytes) (λ x. absurd (omega arith)) in
       rw (not_end more l (at + cursor_bytes) (omega arith), e) (refl, tt)
-  place_ends c b at NoPlace h = (refl, tt)
+  place_ends c b at None h = (refl, tt)
 
-  budget_ends : (c : Counts) (r : BudgetRecord) → words_end c + budget_bytes + cursor_bytes < length l →
+  budget_ends : (c : Counts) (r : Option ℕ) → words_end c + budget_bytes + cursor_bytes < length l →
       (after_any_budget (l ++ more) c (words_end c) r ≡ after_any_budget l c (words_end c) r) × Unsound (after_any_budget l c (words_end c) r)
-  budget_ends c (Budget b) h =
+  budget_ends c (Some b) h =
       let at = words_end c + budget_bytes in
       rw (cursor_at more at l (omega arith)) (place_ends c b at (cursor_record_of (drop at l)) h)
-  budget_ends c NoBudget h = (refl, tt)
+  budget_ends c None h = (refl, tt)
 
-  streams_longer : (r : CountsRead) → counts_of stream_bytes l ≡ r → (after_streams (l ++ more) r ≡ after_streams l r) × Unsound (after_streams l r)
-  streams_longer (Counted c) e =
+  streams_longer : (r : Result Counts BadRecord) → counts_of stream_bytes l ≡ r → (after_streams (l ++ more) r ≡ after_streams l r) × Unsound (after_streams l r)
+  streams_longer (Ok c) e =
       let f = count_facts stream_bytes l c e in
       let f0 = f.few0 in
       let f1 = f.few1 in
       let f2 = f.few2 in
       rw (budget_at more word_most (words_end c) l (omega arith))
       (budget_ends c (budget_record_of word_most (drop (words_end c) l)) (omega arith))
-  streams_longer (NotCounted n) e = (refl, tt)
+  streams_longer (Err x) e = (refl, tt)
 
   pub resume_longer : (resume_script_of (l ++ more) ≡ resume_script_of l) × Unsound (resume_script_of l)
   unfolding resume_script_of

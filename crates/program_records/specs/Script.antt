@@ -1,30 +1,26 @@
 -- The input of `emulate`: records 32, 33, 34 (words of threads 0, 1, 2; at most 1,024 each) and 35 (budget, 4 bytes, within
 -- its limit), each once and in order, and nothing after.
-use Rattle.std.specs.Prelude.{ℕ, ◌+◌, ◌*◌, cond, List, eqb, length, drop}
+use Rattle.std.specs.Prelude.{ℕ, ◌+◌, ◌*◌, cond, List, eqb, length, drop, Option, Some, None, Result, Ok, Err}
 use Rattle.machine.specs.Sizes.{budget_most}
 use Rattle.format.specs.Format.{head_bytes}
 use Rattle.program_records.specs.declared.counts.Counts.{Counts}
-use Rattle.program_records.specs.declared.counts.CountsRead.{CountsRead}
-use Rattle.program_records.specs.declared.counts.CountsRead.TheVariants.{Counted, NotCounted}
-use Rattle.program_records.specs.declared.fixed.BudgetRecord.{BudgetRecord}
-use Rattle.program_records.specs.declared.fixed.BudgetRecord.TheVariants.{Budget, NoBudget}
+use Rattle.program_records.specs.declared.head.BadRecord.{BadRecord}
 use Rattle.program_records.specs.declared.script.Script.{Script}
-use Rattle.program_records.specs.declared.script.ScriptRead.{ScriptRead}
-use Rattle.program_records.specs.declared.script.ScriptRead.TheVariants.{Sound, BadAt}
+use Rattle.program_records.specs.Head.{bad}
 use Rattle.program_records.specs.Counts.{counts_of, words_end}
 use Rattle.program_records.specs.Fixed.{budget_bytes, budget_record_of}
 
 -- nothing after
-abbrev pub ended : List ℕ → Script → ℕ → ScriptRead
-ended bs script at = cond (eqb (length bs) at) (Sound script) (BadAt at)
+abbrev pub ended : List ℕ → Script → ℕ → Result Script BadRecord
+ended bs script at = cond (eqb (length bs) at) (Ok script) (Err (bad at))
 
-abbrev pub after_budget : List ℕ → Counts → ℕ → BudgetRecord → ScriptRead
-after_budget bs c at (Budget b) = ended bs (record { counts = c; budget = b }) (at + budget_bytes)
-after_budget bs c at NoBudget = BadAt at
+abbrev pub after_budget : List ℕ → Counts → ℕ → Option ℕ → Result Script BadRecord
+after_budget bs c at (Some b) = ended bs (record { counts = c; budget = b }) (at + budget_bytes)
+after_budget bs c at None = Err (bad at)
 
-abbrev pub after_words : List ℕ → CountsRead → ScriptRead
-after_words bs (Counted c) = after_budget bs c (words_end c) (budget_record_of budget_most (drop (words_end c) bs))
-after_words bs (NotCounted n) = BadAt n
+abbrev pub after_words : List ℕ → Result Counts BadRecord → Result Script BadRecord
+after_words bs (Ok c) = after_budget bs c (words_end c) (budget_record_of budget_most (drop (words_end c) bs))
+after_words bs (Err e) = Err e
 
 -- the most words of a thread, and the most bytes of a body of words
 abbrev pub script_words : ℕ
@@ -38,5 +34,5 @@ abbrev pub script_most : ℕ
 script_most = 3 * (head_bytes + body_most) + budget_bytes
 
 -- the script, or the offset of the first bad or missing record or of extra bytes
-unfoldable pub script_of : List ℕ → ScriptRead
+unfoldable pub script_of : List ℕ → Result Script BadRecord
 script_of bs = after_words bs (counts_of body_most bs)

@@ -1,9 +1,11 @@
 // A record's head: its body's length (4 bytes) and its kind (2).
-ghost use Rattle.std.specs.Prelude.{◌≡◌, ◌≤◌, drop};
+ghost use Rattle.std.specs.Prelude.{◌≡◌, ◌+◌, ◌≤◌, true, length, drop, IfSome};
+ghost use Rattle.format.specs.Format.{head_bytes};
 ghost use Rattle.format.specs.Places.{place_most};
 ghost use Rattle.program_records.specs.Head.{body_of, has_body};
 
 use format::HEAD_BYTES;
+use format::number::read;
 
 // The kinds of records: the words of threads 0, 1 and 2, the budget, the cursor.
 pub(crate) const WORDS_0: u32 = 32;
@@ -16,43 +18,36 @@ pub(crate) const BUDGET: u32 = 35;
 
 pub(crate) const CURSOR: u32 = 36;
 
-// How many bytes a record's body has.
-#[derive(Clone, Copy)]
-pub enum BodyRead {
-    Body(usize),
-    NoBody,
+// An input that is not sound: where its first bad or missing record starts, or what is beyond its records.
+#[derive(Clone, Copy, Debug, PartialEq, Eq)]
+pub struct BadRecord {
+    pub at: usize,
 }
 
-// The body of a record of a kind at a place. Internal: the place is within reach of a sound input.
-pub(crate) fn body_at(s: &[u8], at: usize, kind: u32, most: u32) -> BodyRead
+// How many bytes the body of a record of a kind has at a place. Internal: the place is within reach of a sound input.
+#[tactic(auto, using(crate::proofs::Heads::body_is, crate::proofs::Heads::no_head))]
+pub(crate) fn body_at(s: &[u8], at: usize, kind: u32, most: u32) -> Option<usize>
     requires { at ≤ place_most }
-    ensures { result ≡ body_of kind most (drop at s.now) }
+    ensures value { result ≡ body_of kind most (drop at s.now) }
+    ensures there { IfSome result (λ n. (n ≤ most) × (at + head_bytes + n ≤ length s.now)) }
 {
     if s.len() < at + HEAD_BYTES {
-        return BodyRead::NoBody;
+        return None;
     }
-    let n = format::number::read(s, at, 4);
-    let k = format::number::read(s, at + 4, 2);
-    if k != kind {
-        return BodyRead::NoBody;
+    let n = read::<4>(s, at);
+    let k = read::<2>(s, at + 4);
+    if k != kind || n > most || s.len() < at + HEAD_BYTES + n as usize {
+        return None;
     }
-    if n > most {
-        return BodyRead::NoBody;
-    }
-    if s.len() < at + HEAD_BYTES + n as usize {
-        return BodyRead::NoBody;
-    }
-    BodyRead::Body(n as usize)
+    Some(n as usize)
 }
 
 // Whether a record of a kind with a body of n bytes is at a place. Internal, as body_at.
+#[tactic(auto, unfolding(crate::specs::Head::has_body))]
 pub fn has_body(s: &[u8], at: usize, kind: u32, n: u32) -> bool
     requires { at ≤ place_most }
-    ensures { result ≡ has_body kind n (drop at s.now) }
+    ensures value { result ≡ has_body kind n (drop at s.now) }
+    ensures there { result ≡ true → at + head_bytes + n ≤ length s.now }
 {
-    let b = body_at(s, at, kind, n);
-    match b {
-        BodyRead::NoBody => false,
-        BodyRead::Body(k) => k == n as usize,
-    }
+    body_at(s, at, kind, n) == Some(n as usize)
 }

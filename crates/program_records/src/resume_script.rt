@@ -1,12 +1,10 @@
 // The input of `resume` after its image: records 32 to 36.
-ghost use Rattle.std.specs.Prelude.{◌≡◌, ◌+◌, ◌≤◌, drop};
-ghost use Rattle.machine.specs.Sizes.{word_most};
-ghost use Rattle.format.specs.Places.{place_most};
-ghost use Rattle.program_records.specs.Fixed.{budget_bytes, budget_record_of, cursor_record_of};
-ghost use Rattle.program_records.specs.ResumeScript.{after_place, after_any_budget, resume_script_of};
+ghost use Rattle.std.specs.Prelude.{◌≡◌};
+ghost use Rattle.program_records.specs.ResumeScript.{resume_script_of};
 
-use crate::counts::{Counts, CountsRead};
-use crate::fixed::{BUDGET_BYTES, BudgetRecord, CURSOR_BYTES, CursorRecord};
+use crate::counts::{Counts, count_words};
+use crate::fixed::{BUDGET_BYTES, CURSOR_BYTES, budget_record, cursor_record};
+use crate::head::BadRecord;
 use format::HEAD_BYTES;
 use machine::sizes::STREAM_WORDS;
 use run_order::cursor::Cursor;
@@ -27,52 +25,23 @@ pub struct ResumeScript {
     pub cursor: Cursor,
 }
 
-#[derive(Clone, Copy)]
-pub enum ResumeRead {
-    Whole(ResumeScript),
-    Faulty(usize),
-}
-
-// Record 36 and the end. Internal: the place is within reach of a sound input.
-fn from_cursor(s: &[u8], counts: Counts, budget: u32, at: usize) -> ResumeRead
-    requires { at ≤ place_most }
-    ensures { result ≡ after_place s.now counts budget at (cursor_record_of (drop at s.now)) }
-{
-    let c = crate::fixed::cursor_record(s, at);
-    match c {
-        CursorRecord::NoPlace => ResumeRead::Faulty(at),
-        CursorRecord::Place(cursor) => {
-            if s.len() == at + CURSOR_BYTES {
-                return ResumeRead::Whole(ResumeScript {
-                    counts,
-                    budget,
-                    cursor,
-                });
-            }
-            ResumeRead::Faulty(at + CURSOR_BYTES)
-        }
-    }
-}
-
-// Records 35 and 36 and the end. Internal, as from_cursor.
-fn from_any_budget(s: &[u8], counts: Counts, at: usize) -> ResumeRead
-    requires { at + budget_bytes ≤ place_most }
-    ensures { result ≡ after_any_budget s.now counts at (budget_record_of word_most (drop at s.now)) }
-{
-    let b = crate::fixed::budget_record(s, at, u32::MAX);
-    match b {
-        BudgetRecord::NoBudget => ResumeRead::Faulty(at),
-        BudgetRecord::Budget(budget) => from_cursor(s, counts, budget, at + BUDGET_BYTES),
-    }
-}
-
 // The records after the image: what they hold, or the offset of the first bad or missing record or of extra bytes.
-pub fn read_resume_script(s: &[u8]) -> ResumeRead
+#[tactic(auto, unfolding(crate::specs::ResumeScript::resume_script_of))]
+pub fn read_resume_script(s: &[u8]) -> Result<ResumeScript, BadRecord>
     ensures { result ≡ resume_script_of s.now }
 {
-    let c = crate::counts::count_words(s, STREAM_BYTES);
-    match c {
-        CountsRead::NotCounted(at) => ResumeRead::Faulty(at),
-        CountsRead::Counted(counts) => from_any_budget(s, counts, crate::counts::words_end(counts)),
+    let counts = count_words(s, STREAM_BYTES)?;
+    let at = counts.words_end();
+    let budget = budget_record(s, at, u32::MAX).ok_or(BadRecord { at })?;
+    let at = at + BUDGET_BYTES;
+    let cursor = cursor_record(s, at).ok_or(BadRecord { at })?;
+    let end = at + CURSOR_BYTES;
+    if s.len() != end {
+        return Err(BadRecord { at: end });
     }
+    Ok(ResumeScript {
+        counts,
+        budget,
+        cursor,
+    })
 }

@@ -1,12 +1,10 @@
 // The input of `emulate`: records 32 to 35.
-ghost use Rattle.std.specs.Prelude.{◌≡◌, ◌≤◌, drop};
-ghost use Rattle.machine.specs.Sizes.{budget_most};
-ghost use Rattle.format.specs.Places.{place_most};
-ghost use Rattle.program_records.specs.Fixed.{budget_record_of};
-ghost use Rattle.program_records.specs.Script.{after_budget, script_of};
+ghost use Rattle.std.specs.Prelude.{◌≡◌};
+ghost use Rattle.program_records.specs.Script.{script_of};
 
-use crate::counts::{Counts, CountsRead};
-use crate::fixed::{BUDGET_BYTES, BudgetRecord};
+use crate::counts::{Counts, count_words};
+use crate::fixed::{BUDGET_BYTES, budget_record};
+use crate::head::BadRecord;
 use format::HEAD_BYTES;
 use machine::sizes::MOST_TURNS;
 
@@ -26,36 +24,17 @@ pub struct Script {
     pub budget: u32,
 }
 
-#[derive(Clone, Copy)]
-pub enum ScriptRead {
-    Sound(Script),
-    BadAt(usize),
-}
-
-// Record 35 and the end. Internal: the place is within reach of a sound input.
-fn from_budget(s: &[u8], counts: Counts, at: usize) -> ScriptRead
-    requires { at ≤ place_most }
-    ensures { result ≡ after_budget s.now counts at (budget_record_of budget_most (drop at s.now)) }
-{
-    let b = crate::fixed::budget_record(s, at, MOST_TURNS);
-    match b {
-        BudgetRecord::NoBudget => ScriptRead::BadAt(at),
-        BudgetRecord::Budget(budget) => {
-            if s.len() == at + BUDGET_BYTES {
-                return ScriptRead::Sound(Script { counts, budget });
-            }
-            ScriptRead::BadAt(at + BUDGET_BYTES)
-        }
-    }
-}
-
 // The whole input: what it holds, or the offset of the first bad or missing record or of extra bytes.
-pub fn read_script(s: &[u8]) -> ScriptRead
+#[tactic(auto, unfolding(crate::specs::Script::script_of))]
+pub fn read_script(s: &[u8]) -> Result<Script, BadRecord>
     ensures { result ≡ script_of s.now }
 {
-    let c = crate::counts::count_words(s, BODY_BYTES);
-    match c {
-        CountsRead::NotCounted(at) => ScriptRead::BadAt(at),
-        CountsRead::Counted(counts) => from_budget(s, counts, crate::counts::words_end(counts)),
+    let counts = count_words(s, BODY_BYTES)?;
+    let at = counts.words_end();
+    let budget = budget_record(s, at, MOST_TURNS).ok_or(BadRecord { at })?;
+    let end = at + BUDGET_BYTES;
+    if s.len() != end {
+        return Err(BadRecord { at: end });
     }
+    Ok(Script { counts, budget })
 }

@@ -4,14 +4,11 @@
 
 use dest::flags::{Flags, flags_of};
 use dest::maps;
-use dest::rows::{Row16, Row32, StorageRow, View16Row, View32Row};
+use dest::rows::{StorageRow, VIEW_16_ROWS, VIEW_32_ROWS, View16Row, View32Row};
 use std::io;
 
 fn write_flag(rt: &HostRuntime, on: bool, letter: &[u8]) -> io::Result<()> {
-    if on {
-        return rt.write_all(letter);
-    }
-    rt.write_all(b"-")
+    rt.write_all(if on { letter } else { b"-" })
 }
 
 fn write_start(rt: &HostRuntime, view: &[u8], flags: Flags, n: u32) -> io::Result<()> {
@@ -27,56 +24,52 @@ fn write_place(rt: &HostRuntime, s: StorageRow) -> io::Result<()> {
     rt.print(s.0 as u64)
 }
 
+// A line of the 16-bit view.
 fn write_16(rt: &HostRuntime, flags: Flags, n: u32) -> io::Result<()> {
     write_start(rt, b"16 ", flags, n)?;
     match View16Row::new(n) {
-        Row16::In16(row) => write_place(rt, maps::storage_row(flags, row))?,
-        Row16::Past16 => {
-            rt.write_all(b" past")?;
-        }
+        Some(row) => write_place(rt, maps::storage_row(flags, row))?,
+        None => rt.write_all(b" past")?,
     }
     rt.write_all(b"\n")
 }
 
+// A line of the 32-bit view.
 fn write_32(rt: &HostRuntime, flags: Flags, n: u32) -> io::Result<()> {
     write_start(rt, b"32 ", flags, n)?;
     match View32Row::new(n) {
-        Row32::In32(row) => {
+        Some(row) => {
             write_place(rt, maps::high_row(flags, row))?;
             write_place(rt, maps::low_row(flags, row))?;
         }
-        Row32::Past32 => {
-            rt.write_all(b" past")?;
-        }
+        None => rt.write_all(b" past")?,
     }
     rt.write_all(b"\n")
 }
 
-fn write_row(rt: &HostRuntime, wide: bool, flags: Flags, n: u32) -> io::Result<()> {
-    if wide {
-        return write_32(rt, flags, n);
-    }
-    write_16(rt, flags, n)
-}
-
 // A view's rows in the setting of a Config word, and numbers past the view: the next one and two of more than 16 bits.
-fn write_view(rt: &HostRuntime, wide: bool, rows: u32, word: u32) -> io::Result<()> {
+fn write_view<W: Fn(&HostRuntime, Flags, u32) -> io::Result<()>>(
+    rt: &HostRuntime,
+    write_row: W,
+    rows: u16,
+    word: u32,
+) -> io::Result<()>
+    requires { W.IsAlwaysCallable write_row }
+{
     let flags = flags_of(word);
-    for n in 0..=rows {
-        write_row(rt, wide, flags, n)?;
+    for n in 0..=rows as u32 {
+        write_row(rt, flags, n)?;
     }
-    write_row(rt, wide, flags, 0x1_0000)?;
-    write_row(rt, wide, flags, 0xffff_ffff)
+    write_row(rt, flags, 0x1_0000)?;
+    write_row(rt, flags, 0xffff_ffff)
 }
 
 // Every setting that a view tells apart; some of the words have bits set that are no flag, or not for the view.
 fn main(rt: HostRuntime) -> io::Result<()> {
-    let narrow = View16Row::ROWS as u32;
-    write_view(&rt, false, narrow, 2)?;
-    write_view(&rt, false, narrow, 0xffff_fffd)?;
-    let wide = View32Row::ROWS as u32;
-    write_view(&rt, true, wide, 0)?;
-    write_view(&rt, true, wide, 1)?;
-    write_view(&rt, true, wide, 0xffff_fffe)?;
-    write_view(&rt, true, wide, 3)
+    write_view(&rt, write_16, VIEW_16_ROWS, 2)?;
+    write_view(&rt, write_16, VIEW_16_ROWS, 0xffff_fffd)?;
+    write_view(&rt, write_32, VIEW_32_ROWS, 0)?;
+    write_view(&rt, write_32, VIEW_32_ROWS, 1)?;
+    write_view(&rt, write_32, VIEW_32_ROWS, 0xffff_fffe)?;
+    write_view(&rt, write_32, VIEW_32_ROWS, 3)
 }

@@ -3,7 +3,7 @@ use native.Mathlib.Omega.{arith}
 use borrow.Author.Tests.{eq-eqb, ne_eqb}
 use Rattle.machine.proofs.ControlFacts.{pointer_at}
 use Rattle.bench_sources.specs.Sources.{sources, with_source_row, write_source_row_of}
-use Rattle.machine.proofs.Checks.{checked_denied, checked_found}
+use Rattle.machine.proofs.Checks.{checked_found}
 use Rattle.bench_sources.proofs.Facts.{source_facts}
 use Rattle.bench_sources.proofs.write_source_row.Goals as goal
 

@@ -2,5 +2,5 @@ use Rattle.bits.proofs.Overwrite.{wrote_then}
 use native.Mathlib.Omega.{arith}
 use Rattle.program_report.proofs.put_number_line.Goals as goal
 
-pub returns : goal.returns
-returns c = record { wrote = wrote_then c.put_bytes-p.ensures (wrote_then c.put_decimal-q.ensures.wrote c.put_byte.ensures (omega arith)) (omega arith); short = omega arith }
+pub returns-clause-wrote : goal.returns-clause-wrote
+returns-clause-wrote c = wrote_then c.put_all-p.ensures (wrote_then c.put_decimal-q.ensures.wrote c.put_one.ensures (omega arith)) (omega arith)

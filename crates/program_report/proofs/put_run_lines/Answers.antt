@@ -3,8 +3,6 @@ use native.Mathlib.Omega.{arith}
 use Rattle.program_report.specs.Lines.{run_lines}
 use Rattle.program_report.proofs.put_run_lines.Goals as goal
 
-pub returns : goal.returns
+pub returns-clause-wrote : goal.returns-clause-wrote
 unfolding run_lines
-returns c =
-    let written = wrote_then c.put_end_line-p.ensures.wrote (wrote_then c.put_number_line-q.ensures.wrote c.put_thread_lines.ensures.wrote (omega arith)) (omega arith) in
-    record { wrote = rw (← c.stalls_told-told.ensures) written; short = omega arith }
+returns-clause-wrote c = wrote_then c.put_end_line-p.ensures.wrote (wrote_then c.put_number_line-q.ensures.wrote c.put_thread_lines.ensures.wrote (omega arith)) (omega arith)

@@ -1,16 +1,11 @@
-use native.Mathlib.Omega.{arith}
 use mathlib.Core.Path.{sym}
 use lib.Seq.{length-take-le}
 use Rattle.program_records.proofs.Streams.{first_read}
 use Rattle.program_records.proofs.words.read_first.Goals as goal
 
-pub slice_bounds-read_words-end-2 : goal.slice_bounds-read_words-end-2
-slice_bounds-read_words-end-2 c = sym (length-take-le c.args.n c.args.dst.now c.requires.1)
-
-pub read_words-requires : goal.read_words-requires
-read_words-requires c =
-    let long = length-take-le c.args.n c.args.dst.now c.requires.1 in (omega arith, omega arith, omega arith)
+pub slice_bounds-read_run-end-2 : goal.slice_bounds-read_run-end-2
+slice_bounds-read_run-end-2 c = sym (length-take-le c.args.n c.args.dst.now c.requires.1)
 
 pub returns : goal.returns
 returns c =
-    first_read c.args.s.now _ _ c.args.at _ c.args.n c.read_words.ensures (length-take-le c.args.n c.args.dst.now c.requires.1)
+    first_read c.args.s.now _ _ c.args.at _ c.args.n c.read_run.ensures (length-take-le c.args.n c.args.dst.now c.requires.1)
