@@ -1,11 +1,11 @@
 // Dest's valid marks, eight to a byte: row r at bit r mod 8 of byte r / 8.
 ghost use Rattle.std.specs.Prelude.{◌≡◌, ◌+◌, ◌*◌, ◌≤◌, length, drop};
-ghost use Rattle.machine.specs.Sizes.{mark_count};
 ghost use Rattle.bits.specs.Overwrite.{over, Wrote};
 ghost use Rattle.image_layout.specs.Marks.{bit, pack, unpack, marks_format};
 ghost use Rattle.image_layout.specs.Image.{marks_size};
 
 use image_layout::MARK_BYTES;
+use machine::sizes::DEST_ROWS;
 
 // A mark as a number.
 fn bit(b: bool) -> u8
@@ -19,10 +19,8 @@ fn packed(marks: &[bool], at: usize) -> u8
     requires { at + 8 ≤ length marks.now }
     ensures { result ≡ pack 8 (drop at marks.now) }
 {
-    let mut v: u8 = 0;
-    let mut i: usize = 8;
-    while 0 < i {
-        i -= 1;
+    let mut v = 0;
+    for i in (0..8).rev() {
         v = bit(marks[at + i]) + 2 * v;
     }
     v
@@ -34,36 +32,28 @@ fn unpack(b: u8, marks: &mut [bool], at: usize)
     ensures { marks.new ≡ over marks.old at (unpack 8 b) }
 {
     let mut v = b;
-    let mut i: usize = 0;
-    while i < 8 {
+    for i in 0..8 {
         marks[at + i] = v % 2 == 1;
-        v = v / 2;
-        i += 1;
+        v /= 2;
     }
 }
 
-// Writes the marks from `at`. Internal: there is room, and they have their size.
-pub(crate) fn write_marks(out: &mut [u8], at: usize, marks: &[bool])
-    requires { (at + marks_size ≤ length out.old) × (length marks.now ≡ mark_count) }
+// Writes the marks from `at`. Internal: there is room.
+pub(crate) fn write_marks(out: &mut [u8], at: usize, marks: &[bool; DEST_ROWS])
+    requires { at + marks_size ≤ length out.old }
     ensures { Wrote out.old at ((marks_format marks_size).put marks.now) out.new (at + marks_size) }
 {
-    let mut p = at;
-    let mut i: usize = 0;
-    while i < MARK_BYTES {
-        out[p] = packed(marks, 8 * i);
-        p += 1;
-        i += 1;
+    for i in 0..MARK_BYTES {
+        out[at + i] = packed(marks, 8 * i);
     }
 }
 
-// Reads the marks from `at`. Internal: their bytes are there, and they have their size.
-pub(crate) fn read_marks(s: &[u8], at: usize, marks: &mut [bool])
-    requires { (at + marks_size ≤ length s.now) × (length marks.old ≡ mark_count) }
+// Reads the marks from `at`. Internal: their bytes are there.
+pub(crate) fn read_marks(s: &[u8], at: usize, marks: &mut [bool; DEST_ROWS])
+    requires { at + marks_size ≤ length s.now }
     ensures { marks.new ≡ (marks_format marks_size).get (drop at s.now) }
 {
-    let mut i: usize = 0;
-    while i < MARK_BYTES {
+    for i in 0..MARK_BYTES {
         unpack(s[at + i], marks, 8 * i);
-        i += 1;
     }
 }

@@ -9,5 +9,5 @@ pub returns : goal.returns
 returns c =
     let s = c.args.s.now in
     both_read dest_record marks_record dest_at s
-    (numbers_read 4 2 half_most dest_count dest_at s c.requires.1 c.read_halves.ensures)
+    (numbers_read 4 2 half_most dest_count dest_at s c.told-dest c.read_run.ensures)
     (kind_read 5 (marks_format marks_size) marks_at s c.read_marks.ensures)

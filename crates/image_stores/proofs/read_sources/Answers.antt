@@ -8,5 +8,5 @@ pub returns : goal.returns
 returns c =
     let s = c.args.s.now in
     both_read (source_record 6) (source_record 7) source_a_at s
-    (numbers_read 6 3 cell_most source_count source_a_at s c.requires.1 c.read_words.ensures)
-    (numbers_read 7 3 cell_most source_count source_b_at s c.requires.2 c.read_words-2.ensures)
+    (numbers_read 6 3 cell_most source_count source_a_at s c.told-src_a c.read_run.ensures)
+    (numbers_read 7 3 cell_most source_count source_b_at s c.told-src_b c.read_run-2.ensures)

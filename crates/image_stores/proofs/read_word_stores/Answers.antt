@@ -8,5 +8,5 @@ pub returns : goal.returns
 returns c =
     let s = c.args.s.now in
     both_read gprs_record (config_record config_kind config_count) gprs_at s
-    (numbers_read 2 4 word_most gpr_count gprs_at s c.requires.1 c.read_words.ensures)
-    (numbers_read config_kind 4 word_most config_count config_at s c.requires.2 c.read_words-2.ensures)
+    (numbers_read 2 4 word_most gpr_count gprs_at s c.told-gprs c.read_run.ensures)
+    (numbers_read config_kind 4 word_most config_count config_at s c.told-config c.read_run-2.ensures)

@@ -1,3 +1,4 @@
+use Prim.Native.Nat.{◌*◌, ◌≤◌}
 use native.Mathlib.Nat.{mul-le-mul_left}
 use native.Mathlib.Omega.{arith}
 use lib.ListN.{length}
@@ -5,9 +6,9 @@ use Rattle.format.proofs.Writes.{wrote_next}
 use Rattle.image_stores.proofs.write_record.Goals as goal
 
 pub overflow_cast-src : goal.overflow_cast-src
-overflow_cast-src c =
-    omega (arith, mul-le-mul_left (length c.args.src.now) c.requires.2)
+overflow_cast-src g c =
+    let small : length c.args.src.now * g.row.W ≤ length c.args.src.now * 4 = mul-le-mul_left (length c.args.src.now) (omega arith) in
+    omega arith
 
 pub returns : goal.returns
-returns c =
-    wrote_next (omega arith) c.write_head.ensures (λ h. c.write_words.ensures)
+returns g c = wrote_next (omega arith) c.write_head.ensures (λ h. c.write_run.ensures)

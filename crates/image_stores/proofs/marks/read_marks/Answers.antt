@@ -1,4 +1,4 @@
-use Prim.Native.Nat.{◌+◌, ◌-◌, ◌*◌}
+use Prim.Native.Nat.{◌-◌, ◌*◌}
 use mathlib.Core.Path.{◌≡◌, sym, ◌∙◌}
 use native.Mathlib.Omega.{arith}
 use lib.ListN.{drop}
@@ -9,22 +9,13 @@ use Rattle.image_layout.specs.Image.{marks_size}
 use Rattle.image_layout.proofs.MarkLaws.{marks_of, marks_long, marks_next}
 use Rattle.image_stores.proofs.marks.read_marks.Goals as goal
 
-pub loop-i-init : goal.loop-i-init
-loop-i-init c =
-    let a = c.args in
-    let f : a.at + 0 ≡ a.at = omega arith in
-    (omega arith, omega arith, rw f)
-
 pub loop-i-preserved : goal.loop-i-preserved
 loop-i-preserved c =
     let done = c.unpack in
     let l = c.loop-i in
     let a = c.args in
     let next = marks_next marks_size a.at l.i a.s.now l.marks done.new.marks c.loop-i-test.true (omega arith) done.ensures in
-    (omega arith, done.auto.marks ∙ l.invariant.1, next ∙ l.invariant.2)
-
-pub shape_of-marks : goal.shape_of-marks
-shape_of-marks c = c.loop-i.invariant.1 ∙ sym c.requires.1
+    (done.auto.marks ∙ l.invariant.0, next ∙ l.invariant.1)
 
 pub returns : goal.returns
 unfolding joined_eights many_get
@@ -34,5 +25,5 @@ returns c =
     let bytes = drop a.at a.s.now in
     let e : marks_size - l.i ≡ 0 = omega arith in
     sym (over_none l.marks (8 * l.i))
-    ∙ rw e at l.invariant.2
+    ∙ rw e at l.invariant.1
     ∙ over_whole a.marks.now (marks_of marks_size bytes) (omega (arith, marks_long marks_size bytes))

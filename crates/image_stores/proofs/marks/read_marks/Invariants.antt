@@ -1,4 +1,4 @@
-use Prim.Native.Nat.{◌+◌, ◌-◌, ◌*◌, ◌≤◌}
+use Prim.Native.Nat.{◌+◌, ◌-◌, ◌*◌}
 use mathlib.Core.Path.{◌≡◌}
 use lib.ListN.{length, drop}
 use Rattle.bits.specs.Overwrite.{over}
@@ -9,8 +9,4 @@ use Rattle.image_stores.proofs.marks.read_marks.Given as goal
 
 abbrev pub invariant-loop-i : goal.invariant-loop-i
 invariant-loop-i l =
-    (l.i ≤ marks_size) × (length l.marks ≡ mark_count)
-    × (over l.marks (8 * l.i) (marks_of (marks_size - l.i) (drop (l.at + l.i) l.s)) ≡ over l.initial.marks 0 (marks_of marks_size (drop l.at l.s)))
-
-abbrev pub decreases-loop-i : goal.decreases-loop-i
-decreases-loop-i l = marks_size - l.i
+    (length l.marks ≡ mark_count) × (over l.marks (8 * l.i) (marks_of (marks_size - l.i) (drop (l.at + l.i) l.s)) ≡ over l.initial.marks 0 (marks_of marks_size (drop l.at l.s)))
