@@ -1,5 +1,5 @@
 -- Laws of a MOP in parts: what a part is, by the tests that the code makes, and that it has room.
-use Prim.Native.Nat.{ℕ, ◌+◌, ◌-◌, ◌/◌, ◌%◌, ◌≤◌}
+use Prim.Native.Nat.{ℕ, ◌+◌, ◌-◌, ◌≤◌}
 use mathlib.Core.Bool.{Bool, true, false, cond, ◌&&◌}
 use mathlib.Core.List.{List, [], ◌∷◌, append-nil}
 use mathlib.Core.Path.{◌≡◌, refl, sym, ◌∙◌}
@@ -7,7 +7,7 @@ use native.Mathlib.Nat.{sub-zero}
 use native.Mathlib.Omega.{arith}
 use lib.Dec.{ltb}
 use lib.ListN.{length, take}
-use borrow.Author.Tests.{ne_eqb, ltb-false}
+use borrow.Author.Tests.{ltb-false}
 use Rattle.bits.specs.Field.{field}
 use Rattle.bits.specs.Overwrite.{Wrote}
 use Rattle.bits.proofs.Choices.{neither, cond_both}
@@ -20,13 +20,6 @@ use Rattle.expander_rules.proofs.Rounds.{rounds_long, outer_long, mask_group_lon
 use Rattle.expander_rules.proofs.StreamLaws.{word_mop, template_here}
 use Rattle.expander_rules.proofs.Words.{taken_back}
 use Rattle.expander.specs.Parts.{part_count, round_words, part_words, mop_part}
-
--- how many parts there are
-pub parts_1 : (m : List ℕ) (word : ℕ) → word / 8388608 % 2 ≡ 1 → part_count m word ≡ nth m 0
-parts_1 m word h = rw h
-
-pub parts_0 : (m : List ℕ) (word : ℕ) → (word / 8388608 % 2 ≡ 1 → ⊥) → part_count m word ≡ 1
-parts_0 m word h = simp (ne_eqb (word / 8388608 % 2) 1 h)
 
 module _ (m : List ℕ) (high word : ℕ) where
   -- template 0 of some nine words

@@ -1,7 +1,6 @@
 -- A MOP in parts. These definitions serve internal contracts alone.
-use Rattle.std.specs.Prelude.{ℕ, false, cond, ◌&&◌, List, [], ◌∷◌, ◌≡◌, length}
+use Rattle.std.specs.Prelude.{ℕ, false, cond, ◌&&◌, List, [], ◌∷◌, ◌≡◌}
 use Rattle.bits.specs.Field.{field}
-use Rattle.expander_rules.specs.Sizes.{nine_count, part_most}
 use Rattle.expander_rules.specs.Templates.{nth, last_word, outer_round, template0}
 use Rattle.expander_rules.specs.Stream.{of_template1, is_template1, mop_mask}
 use Rattle.expander_rules.specs.Call.{over_rounds}
@@ -20,8 +19,6 @@ part_words m word o = cond (of_template1 word) (round_words m o) m
 unfoldable pub mop_part : List ℕ → ℕ → ℕ → ℕ → List ℕ
 mop_part m high word o = cond (of_template1 word) (outer_round m o) (template0 m (mop_mask high word) (field 16 7 word))
 
--- there are nine words, the word is not refused by 7, and a part of it has room
-pub record WordFits (m : List ℕ) (word : ℕ) (room : List ℕ) : Type 0 where
-  pub nine : length m ≡ nine_count
-  pub few : (over_rounds m && is_template1 word) ≡ false
-  pub part : length room ≡ part_most
+-- the word is not refused by 7, so that a part of it has room
+abbrev pub WordFits : List ℕ → ℕ → Type 0
+WordFits m word = (over_rounds m && is_template1 word) ≡ false

@@ -1,158 +1,122 @@
 // Looking ahead over a stream: refusals 7 and 13 in one pass, and the words that it gives, up to one past a limit.
-ghost use Rattle.std.specs.Prelude.{false, not, ◌≡◌, ℕ, ◌≤◌, length};
+ghost use Rattle.std.specs.Prelude.{true, false, ◌≡◌, ℕ, ◌≤◌, Some};
 ghost use Rattle.machine.specs.Answers.{accepted, told};
-ghost use Rattle.expander_rules.specs.Sizes.{nine_count, needed_most, part_most};
-ghost use Rattle.expander_rules.specs.Stream.{opcode, mop_words, any_replay, emission_of, stream_of};
+ghost use Rattle.expander_rules.specs.Sizes.{needed_most};
+ghost use Rattle.expander_rules.specs.Stream.{opcode, mop_words, emission_of, stream_of};
 ghost use Rattle.expander_rules.specs.Replay.{is_loading};
-ghost use Rattle.expander_rules.specs.Call.{fault_of};
+ghost use Rattle.expander_rules.specs.Call.{fault_of, unless_refused};
 ghost use Rattle.expander_rules.specs.Counts.{capped, played_count};
 ghost use Rattle.expander_replay.specs.Surveyed.{Surveying, Surveyed};
 ghost use Rattle.expander.specs.Parts.{WordFits};
 
+use crate::nine::Nine;
 use crate::parts;
-use expander_mop::limits::{is_template_1, over_rounds};
+use bits::word::field;
 use expander_mop::mask::mask_after;
-use expander_replay::loads::{any_replay, is_loading};
+use expander_replay::loads::is_loading;
 use expander_replay::survey::{Survey, survey_word, survey_words};
 use expander_rules::Load;
+use expander_rules::sizes::PART_MOST;
 use expander_templates::count::count_mop;
-use machine::access::Access;
 use machine::refusal::Refusal;
 
 // A MOP none of whose words is a REPLAY, while no load is on: its words are counted and not made.
-fn survey_plain(nine: &[u32], word: u32, s: Survey, limit: usize) -> Survey
-    requires { (length nine.now ≡ nine_count) × (any_replay nine.now ≡ false) × (is_loading s.load ≡ false) × Surveying s limit }
-    ensures { (high : ℕ) → Surveyed s (mop_words nine.now high word) limit result }
+fn survey_plain(nine: &Nine, word: u32, s: Survey, limit: usize) -> Survey
+    requires { (nine.now.plain ≡ true) × (is_loading s.load ≡ false) × Surveying s limit }
+    ensures { (high : ℕ) → Surveyed s (mop_words nine.now.words high word) limit (Some result) }
 {
     if limit < s.count {
         return s;
     }
-    let load = s.load;
+    let count = count_mop(&nine.words, word, s.count, limit);
     Survey {
-        bad: false,
-        count: count_mop(nine, word, s.count, limit),
-        load,
+        count,
+        load: s.load,
     }
 }
 
 // Any MOP, part by part.
 fn survey_parts(
-    nine: &[u32],
+    nine: &Nine,
     high: u16,
     word: u32,
     start: Survey,
     limit: usize,
-    room: &mut [u32],
-) -> Survey
-    requires { WordFits nine.now word room.old × (opcode word ≡ 1) × Surveying start limit }
-    ensures { Surveyed start (mop_words nine.now high word) limit result }
+    room: &mut [u32; PART_MOST],
+) -> Option<Survey>
+    requires { WordFits nine.now.words word × (opcode word ≡ 1) × Surveying start limit }
+    ensures { Surveyed start (mop_words nine.now.words high word) limit result }
 {
-    let count = parts::part_count(nine, word);
+    let count = parts::part_count(&nine.words, word);
     let mut s = start;
-    let mut o: u32 = 0;
-    while o < count {
-        let n = parts::put_part(nine, high, word, o, room);
-        s = survey_words(&room[..n], s, limit);
-        if s.bad {
-            return s;
-        }
-        o += 1;
+    for o in 0..count {
+        let n = parts::put_part(&nine.words, high, word, o, room);
+        s = survey_words(&room[..n], s, limit)?;
     }
-    s
+    Some(s)
 }
 
-// A MOP; `plain` says that none of the nine words is a REPLAY.
+// A MOP.
 fn survey_mop(
-    nine: &[u32],
-    plain: bool,
+    nine: &Nine,
     high: u16,
     word: u32,
     s: Survey,
     limit: usize,
-    room: &mut [u32],
-) -> Survey
-    requires { (plain ≡ not (any_replay nine.now)) × WordFits nine.now word room.old × (opcode word ≡ 1) × Surveying s limit }
-    ensures { Surveyed s (mop_words nine.now high word) limit result }
+    room: &mut [u32; PART_MOST],
+) -> Option<Survey>
+    requires { WordFits nine.now.words word × (opcode word ≡ 1) × Surveying s limit }
+    ensures { Surveyed s (mop_words nine.now.words high word) limit result }
 {
-    let load = s.load;
-    let on = is_loading(load);
-    let direct = bits::both(plain, !on);
-    if direct {
-        return survey_plain(nine, word, s, limit);
+    if nine.plain && !is_loading(s.load) {
+        return Some(survey_plain(nine, word, s, limit));
     }
     survey_parts(nine, high, word, s, limit, room)
 }
 
 // What a word of the stream gives.
+#[tactic(auto, unfolding(expander_rules::specs::Stream::emission_of))]
 fn survey_emission(
-    nine: &[u32],
-    plain: bool,
+    nine: &Nine,
     high: u16,
     word: u32,
     s: Survey,
     limit: usize,
-    room: &mut [u32],
-) -> Survey
-    requires { (plain ≡ not (any_replay nine.now)) × WordFits nine.now word room.old × Surveying s limit }
-    ensures { Surveyed s (emission_of nine.now high word).words limit result }
+    room: &mut [u32; PART_MOST],
+) -> Option<Survey>
+    requires { WordFits nine.now.words word × Surveying s limit }
+    ensures { Surveyed s (emission_of nine.now.words high word).words limit result }
 {
-    match word / 16777216 % 256 {
-        1 => survey_mop(nine, plain, high, word, s, limit, room),
-        3 => s,
+    match field::<24, 8>(word) {
+        1 => survey_mop(nine, high, word, s, limit, room),
+        3 => Some(s),
         _ => survey_word(word, s, limit),
     }
 }
 
-// Whether the stream is sound, and how many words it gives, where it is.
-#[derive(Clone, Copy)]
-pub(crate) struct Seen {
-    pub(crate) access: Access,
-    pub(crate) count: usize,
-}
-
-// Internal: a whole stream.
+// Internal: a whole stream: how many words it gives, where it is sound.
 pub(crate) fn survey_stream(
-    nine: &[u32],
+    nine: &Nine,
     high: u16,
-    load: Load,
+    load: Option<Load>,
     input: &[u32],
     limit: usize,
-    room: &mut [u32],
-) -> Seen
-    requires { (length nine.now ≡ nine_count) × (limit ≤ needed_most) × (length room.old ≡ part_most) }
-    ensures judged { told result.access ≡ fault_of nine.now high load input.now }
-    ensures counted { told result.access ≡ accepted tt → result.count ≡ capped limit (played_count load (stream_of nine.now high input.now).words) }
+    room: &mut [u32; PART_MOST],
+) -> Result<usize, Refusal>
+    requires { limit ≤ needed_most }
+    ensures { told result ≡ unless_refused (fault_of nine.now.words high load input.now) (accepted (capped limit (played_count load (stream_of nine.now.words high input.now).words))) }
 {
-    let over = over_rounds(nine);
-    let plain = !any_replay(nine);
     let mut mask = high;
-    let mut s = Survey {
-        bad: false,
-        count: 0,
-        load,
-    };
-    let mut i: usize = 0;
-    while i < input.len() {
-        let word = input[i];
-        let many = bits::both(over, is_template_1(word));
-        if many {
-            return Seen {
-                access: Access::Refused(Refusal::BadRounds),
-                count: 0,
-            };
+    let mut s = Survey { count: 0, load };
+    for word in input {
+        if nine.refuse(*word) {
+            return Err(Refusal::BadRounds);
         }
-        s = survey_emission(nine, plain, mask, word, s, limit, room);
-        if s.bad {
-            return Seen {
-                access: Access::Refused(Refusal::BadReplay),
-                count: 0,
-            };
-        }
-        mask = mask_after(mask, word);
-        i += 1;
+        let Some(next) = survey_emission(nine, mask, *word, s, limit, room) else {
+            return Err(Refusal::BadReplay);
+        };
+        s = next;
+        mask = mask_after(mask, *word);
     }
-    Seen {
-        access: Access::Granted,
-        count: s.count,
-    }
+    Ok(s.count)
 }

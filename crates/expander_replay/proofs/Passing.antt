@@ -5,31 +5,25 @@ use mathlib.Core.List.{List, [], ◌∷◌, ◌++◌, append-nil}
 use mathlib.Core.Path.{◌≡◌, refl, sym, ap, ◌∙◌}
 use lib.ListN.{length}
 use Rattle.bits.specs.Overwrite.{Wrote}
-use Rattle.expander_rules.specs.Sizes.{slot_count}
 use Rattle.expander_rules.specs.Stream.{any_replay}
 use Rattle.expander_rules.specs.Replay.{is_loading, load_after, Buffer, buffer, written, slots_after, Played, played, played_then, play_word, play_words}
-use Rattle.expander_rules.proofs.ReplayLaws.{play_append, slots_kept, plain_words}
+use Rattle.expander_rules.proofs.ReplayLaws.{play_append, plain_words}
 use Rattle.expander_templates.proofs.Writing.{Left, left_start, left_room, left_next, left_done, wrote_none}
 use Rattle.expander_replay.specs.Passing.{passed_of, Passable, Passes}
 use Rattle.expander_replay.specs.declared.pass.Passed.{Passed}
 
--- as many slots as before
-pub passes_kept : {s : List ℕ} {p : Passed} {l out t n : List ℕ} {r : Passed} → Passes s p l out t n r → length t ≡ length s
-passes_kept {s} {p} {l} q = ap (λ (x : Buffer). length x.slots) q.after ∙ slots_kept (buffer s p.load) l
-
 -- l passes the slots s₀ from p₀ on: slots, output, and place and load are now s, n and p, and `rest` is still to pass
 pub record Passing (s₀ : List ℕ) (p₀ : Passed) (l out s n : List ℕ) (p : Passed) (rest : List ℕ) : Type 0 where
-  pub slots : length s ≡ slot_count
   pub writing : Left out p₀.at (passed_of s₀ p₀ l).words n p.at (passed_of s p rest).words
   pub buffers : (passed_of s p rest).buffer ≡ (passed_of s₀ p₀ l).buffer
 
 pub passing_start : {s : List ℕ} {p : Passed} {l out : List ℕ} → Passable s p l out → Passing s p l out s out p l
-passing_start {s} {p} {l} {out} f = record { slots = f.slots; writing = left_start out p.at (passed_of s p l).words f.room; buffers = refl }
+passing_start {s} {p} {l} {out} f = record { writing = left_start out p.at (passed_of s p l).words f.room; buffers = refl }
 
 module _ {s₀ l out s n rest : List ℕ} {p₀ p : Passed} (u : Passing s₀ p₀ l out s n p rest) where
   -- the rest fits, and where it has passed, all has
   pub passing_rest : Passable s p rest n
-  passing_rest = record { slots = u.slots; room = u.writing.rest_fits }
+  passing_rest = record { room = u.writing.rest_fits }
 
   pub passing_done : rest ≡ [] → Passes s₀ p₀ l out s n p
   unfolding play_words
@@ -49,18 +43,13 @@ module _ {s₀ l out s n rest : List ℕ} {p₀ p : Passed} (u : Passing s₀ p�
 
     -- the next part fits
     pub passing_part : Passable s p part n
-    passing_part =
-        record {
-          slots = u.slots;
-          room = left_room u.writing first.words (play_words first.buffer more).words (ap (λ (x : Played). x.words) parts);
-        }
+    passing_part = record { room = left_room u.writing first.words (play_words first.buffer more).words (ap (λ (x : Played). x.words) parts) }
 
     -- the next part has passed
     pub passing_next : {t n' : List ℕ} {r : Passed} → Passes s p part n t n' r → Passing s₀ p₀ l out t n' r more
     passing_next q =
         let here = rw (← q.after) at parts in
         record {
-          slots = passes_kept q ∙ u.slots;
           writing = left_next u.writing (ap (λ (x : Played). x.words) here) q.wrote;
           buffers = sym (ap (λ (x : Played). x.buffer) here) ∙ u.buffers;
         }

@@ -1,7 +1,6 @@
 -- What a function does that lets words pass the replay stage. These definitions serve internal contracts alone.
 use Rattle.std.specs.Prelude.{ℕ, ◌+◌, ◌≤◌, List, ◌≡◌, length}
 use Rattle.bits.specs.Overwrite.{Wrote}
-use Rattle.expander_rules.specs.Sizes.{slot_count}
 use Rattle.expander_rules.specs.Replay.{Played, buffer, play_words}
 use Rattle.expander_replay.specs.declared.pass.Passed.{Passed}
 
@@ -9,9 +8,8 @@ use Rattle.expander_replay.specs.declared.pass.Passed.{Passed}
 abbrev pub passed_of : List ℕ → Passed → List ℕ → Played
 passed_of s p l = play_words (buffer s p.load) l
 
--- there are 32 slots, and what is written out fits into `out` from p's place on
+-- what is written out fits into `out` from p's place on
 pub record Passable (s : List ℕ) (p : Passed) (l out : List ℕ) : Type 0 where
-  pub slots : length s ≡ slot_count
   pub room : p.at + length (passed_of s p l).words ≤ length out
 
 -- it stands there; slots and output are then t and n, place and load r's

@@ -2,26 +2,23 @@
 use Prim.Native.Nat.{ℕ, ◌≤◌, ◌<◌, min}
 use mathlib.Core.Bool.{Bool, true, false, not}
 use mathlib.Core.List.{List, []}
-use Rattle.std.specs.Prelude.{Option}
 use mathlib.Core.Path.{◌≡◌, refl, sym, ap, ◌∙◌}
 use native.Mathlib.Omega.{arith}
 use lib.Dec.{leb}
 use lib.ListN.{length}
 use borrow.Author.Tests.{eq-eqb, ne_eqb, le-leb, lt-leb, leb-true}
-use Rattle.bits.specs.Overwrite.{over}
 use Rattle.machine.specs.Answers.{Told, accepted, refused, provided}
 use Rattle.machine.specs.Sizes.{stream_most}
 use Rattle.machine.proofs.Checks.{refused_accepted, provided_test, provided_rest}
 use Rattle.expander_rules.specs.Sizes.{nine_count, needed_most}
 use Rattle.expander_rules.specs.Stream.{stream_of}
-use Rattle.expander_rules.specs.Replay.{Buffer, buffer, play_words}
-use Rattle.expander_rules.specs.State.{carry, load_formed}
+use Rattle.expander_rules.specs.Replay.{buffer}
+use Rattle.expander_rules.specs.State.{load_formed}
 use Rattle.expander_rules.specs.Call.{Expanding, expanding, Expansion, expansion_of, right_lengths, bad_rounds, fault_of, enough_room, unless_refused, expand_check, if_accepted, done_with, expand_of, closed, close_of}
 use Rattle.expander_rules.specs.Counts.{stream_count, played_count}
 use Rattle.expander_rules.specs.Admitted.{Admitted}
 use Rattle.expander_rules.specs.Promises.{mop_expansion, mop_check, mop_call_of}
 use Rattle.expander_rules.specs.declared.Carried.{Carried}
-use Rattle.expander_rules.specs.declared.Load.{Load}
 use Rattle.expander_rules.proofs.ReplayLaws.{play_long}
 use Rattle.expander_rules.proofs.StreamLaws.{stream_long}
 
@@ -45,6 +42,15 @@ both_accepted : {B : Type 0} {y : B} (first : Told (Unit {0})) (rest : Told B) �
     (first ≡ accepted tt) × (rest ≡ accepted y)
 both_accepted (accepted x) rest e = (refl, e)
 both_accepted (refused number values) rest e = refused_accepted (sym e)
+
+-- a first check and what an accepted call counts, by what is told of both
+pub told_fault : {A B : Type 0} (first : Told A) (y : B) {n : ℕ} {vs : List ℕ} → refused n vs ≡ unless_refused first (accepted y) → refused n vs ≡ first
+told_fault (accepted x) y e = refused_accepted (sym e)
+told_fault (refused number values) y e = cc
+
+pub told_sound : {B : Type 0} (first : Told (Unit {0})) {x y : B} → accepted x ≡ unless_refused first (accepted y) → (accepted tt ≡ first) × (x ≡ y)
+told_sound (accepted u) e = (refl, cc)
+told_sound (refused number values) e = refused_accepted e
 
 -- ---- the lesser of the room and 65,536 decides
 little : (out : List ℕ) (needed : ℕ) → min (length out) needed_most < needed → enough_room out needed ≡ false
@@ -81,19 +87,11 @@ module _ (m : List ℕ) (c : Carried) (l : List ℕ) where
     unfolding expand_of expand_check
     malformed nine fits h = rw (eq-eqb (length m) nine_count nine, le-leb (length l) stream_most fits, h)
 
-    -- what both stages leave is what an accepted call comes to
-    pub both_stages : (n high : ℕ) (s : List ℕ) (load : Option Load) (now : List ℕ) → n ≡ length given.words → high ≡ (stream_of m c.high_mask l).high →
-        buffer s load ≡ (play_words (buffer c.slots c.load) (stream_of m c.high_mask l).words).buffer →
-        now ≡ over out 0 (play_words (buffer c.slots c.load) (stream_of m c.high_mask l).words).words →
-        expanding (accepted n) (carry high s load) now ≡ done_with given out
-    unfolding expansion_of
-    both_stages n high s load now p q r e = rw (p, q, ap (λ (b : Buffer). b.slots) r, ap (λ (b : Buffer). b.load) r, e)
-
-module _ {m : List ℕ} {c : Carried} {l : List ℕ} (a : Admitted m c l) (out : List ℕ) where
+module _ (m : List ℕ) {c : Carried} {l : List ℕ} (nine : length m ≡ nine_count) (a : Admitted c l) (out : List ℕ) where
   passes_10 : expand_check m c l out ≡
       unless_refused (fault_of m c.high_mask c.load l) (provided (enough_room out (length (given m c l).words)) 8 (accepted tt))
   unfolding expand_check
-  passes_10 = rw (eq-eqb (length m) nine_count a.nine, le-leb (length l) stream_most a.stream, a.load)
+  passes_10 = rw (eq-eqb (length m) nine_count nine, le-leb (length l) stream_most a.stream, a.load)
 
   pub faulty : {number : ℕ} {values : List ℕ} → refused number values ≡ fault_of m c.high_mask c.load l →
       expand_of m c l out ≡ expanding (refused number values) c out
@@ -143,10 +141,10 @@ module _ (m : List ℕ) (c : Carried) (l out : List ℕ) where
   refuses number values e = refuses_by c out (done_with (given m c l) out) (expand_check m c l out) refl e
 
 -- ---- a call of the MOP stage alone
-module _ {m : List ℕ} {c : Carried} {l : List ℕ} (a : Admitted m c l) (out : List ℕ) where
+module _ (m : List ℕ) {c : Carried} {l : List ℕ} (nine : length m ≡ nine_count) (a : Admitted c l) (out : List ℕ) where
   mop_passes_10 : mop_check m c l out ≡ provided (not (bad_rounds m l)) 7 (provided (enough_room out (length (mop_expansion m c l).words)) 8 (accepted tt))
   unfolding mop_check
-  mop_passes_10 = rw (eq-eqb (length m) nine_count a.nine, le-leb (length l) stream_most a.stream, a.load)
+  mop_passes_10 = rw (eq-eqb (length m) nine_count nine, le-leb (length l) stream_most a.stream, a.load)
 
   pub mop_rounds : bad_rounds m l ≡ true → mop_call_of m c l out ≡ expanding (refused 7 []) c out
   unfolding mop_call_of

@@ -88,17 +88,18 @@ together m c (p ∷ ps) e h =
 
 -- the first piece's call tells that there are nine words and that the load is well formed
 first_taken : (m : List ℕ) (c : Carried) (p : Piece) (ps : List Piece) (e : Expansion) → all_taken m c (p ∷ ps) ≡ accepted e →
-    (l : List ℕ) → length l ≤ stream_most → Admitted m c l
+    (l : List ℕ) → length l ≤ stream_most → (length m ≡ nine_count) × Admitted c l
 unfolding all_taken
 first_taken m c p ps e h l within =
     let first = expand_of m c p.words p.output in
     let t = all_accepted first.answer first.output (all_taken m first.carried ps) e h in
     let a = accepts m c p.words p.output t.count t.first in
     let nine = and_left (eqb (length m) nine_count) (leb (length p.words) stream_most) a.lengths in
-    record { nine = eqb-true (length m) nine_count nine; stream = within; load = a.load }
+    (eqb-true (length m) nine_count nine, record { stream = within; load = a.load })
 
 pub joined_pieces : JoinedPieces
 joined_pieces m c p ps e out h within small room =
     let t = together m c (p ∷ ps) e h in
-    enough_room_lem (first_taken m c p ps e h (joined_words (p ∷ ps)) within) out (sym t.sound) (rw t.given (omega (arith, small, room)))
+    let first = first_taken m c p ps e h (joined_words (p ∷ ps)) within in
+    enough_room_lem m first.0 first.1 out (sym t.sound) (rw t.given (omega (arith, small, room)))
     ∙ ap (λ (r : Expansion). done_with r out) t.given

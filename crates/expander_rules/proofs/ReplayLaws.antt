@@ -119,11 +119,11 @@ plain_fine load (word ∷ l) none =
     rw (not_replay load word n.0) (plain_fine (load_after load word) l n.1)
 
 -- a turn of a loop over the slots, and its end
-pub slots_next : (slots : List ℕ) (i left : ℕ) → 0 < left → slots_from slots i left ≡ (get_or slots i 0 ∷ []) ++ slots_from slots ((i + 1) % slot_count) (left - 1)
+pub slots_next : (slots : List ℕ) (slot i count : ℕ) → i < count →
+    slots_from slots slot (count - i) ≡ (get_or slots slot 0 ∷ []) ++ slots_from slots ((slot + 1) % slot_count) (count - (i + 1))
 unfolding slots_from
-slots_next slots i zero h = absurd (omega arith)
-slots_next slots i (suc n) h = let e : suc n - 1 ≡ n = omega arith in rw e
+slots_next slots slot i count h = let e : count - i ≡ suc (count - (i + 1)) = omega arith in rw e
 
-pub slots_end : (slots : List ℕ) (i left : ℕ) → left ≤ 0 → slots_from slots i left ≡ []
+pub slots_end : (slots : List ℕ) (slot i count : ℕ) → count ≤ i → slots_from slots slot (count - i) ≡ []
 unfolding slots_from
-slots_end slots i left h = let e : left ≡ 0 = omega arith in rw e
+slots_end slots slot i count h = let e : count - i ≡ 0 = omega arith in rw e

@@ -1,61 +1,36 @@
-use Prim.Native.Nat.{ℕ}
-use mathlib.Core.List.{List}
-use Rattle.expander_rules.specs.declared.Carried.{Carried}
-use mathlib.Core.Path.{◌≡◌, refl, sym, ◌∙◌}
+use mathlib.Core.Path.{◌≡◌, sym}
 use native.Mathlib.Omega.{arith}
 use lib.ListN.{length}
-use Rattle.machine.specs.Answers.{accepted}
-use Rattle.expander_rules.specs.Call.{fault_of, expansion_of}
-use Rattle.expander_rules.specs.Counts.{capped}
-use Rattle.expander_rules.proofs.Calls.{needed_long, faulty, little_room, enough_room_lem}
-use Rattle.std.proofs.Common.{rules}
+use Rattle.std.proofs.lemmas.Result.{err_from_is_err_and}
+use Rattle.expander_rules.specs.Call.{expansion_of}
+use Rattle.expander_rules.proofs.Calls.{told_fault, told_sound, needed_long, faulty, little_room, enough_room_lem}
 use Rattle.expander.proofs.expand_replayed.Goals as goal
 
--- the stream is sound, and counted
-record Sound (nine : List ℕ) (carried : Carried) (input : List ℕ) (limit count : ℕ) : Type 0 where
-  fault : accepted tt ≡ fault_of nine carried.high_mask carried.load input
-  needed : count ≡ capped limit (length (expansion_of nine carried input).words)
+pub returns-in_err-count : goal.returns-in_err-count
+returns-in_err-count c =
+    let p = err_from_is_err_and c.from_residual.result c.from_residual.ensures.1 in
+    rw (p.1, p.2) (sym (faulty c.args.nine.now.words (omega arith) c.requires.0 c.args.out.now (told_fault _ _ c.in_err-count.ensures)))
 
-pub returns-then-limit-seen : goal.returns-then-limit-seen
-returns-then-limit-seen c =
-    let sound : Sound c.args.nine.now c.args.carried c.args.input.now c.args.limit c.survey_stream-seen.result.count =
+pub returns-then-limit-count : goal.returns-then-limit-count
+returns-then-limit-count c =
     let a = c.args in
-    let count = (rw c.in-Granted.is at c.survey_stream-seen.ensures.counted) refl in
-    record {
-      fault = rw c.in-Granted.is at c.survey_stream-seen.ensures.judged;
-      needed = rw (needed_long a.nine.now a.carried a.input.now) count;
-    } in
-    let k = sound in
-    rw (c.refuse-then-limit-seen.ensures.0, c.refuse-then-limit-seen.ensures.1)
-    (sym (little_room c.requires.0 c.args.out.now k.fault (omega (arith, c.if-limit-seen.true, c.requires.1, k.needed))))
+    let m = a.nine.now.words in
+    let told = told_sound _ c.in_ok-count.ensures in
+    sym (little_room m (omega arith) c.requires.0 a.out.now told.0 (omega (arith, c.if-limit-count.true, c.requires.1, told.1, needed_long m a.carried a.input.now)))
 
-pub write_expansion-requires : goal.write_expansion-requires
-write_expansion-requires c =
-    let sound : Sound c.args.nine.now c.args.carried c.args.input.now c.args.limit c.survey_stream-seen.result.count =
+pub write_replayed-carried-requires : goal.write_replayed-carried-requires
+write_replayed-carried-requires c =
     let a = c.args in
-    let count = (rw c.in-Granted.is at c.survey_stream-seen.ensures.counted) refl in
-    record {
-      fault = rw c.in-Granted.is at c.survey_stream-seen.ensures.judged;
-      needed = rw (needed_long a.nine.now a.carried a.input.now) count;
-    } in
-    let k = sound in
-    let fits = c.if-limit-seen.false in
-    (c.requires.0.nine, search rules, sym k.fault, omega (arith, fits, c.requires.1, k.needed), omega (arith, fits, c.requires.1))
+    let told = told_sound _ c.in_ok-count.ensures in
+    (sym told.0, omega (arith, c.if-limit-count.false, c.requires.1, told.1, needed_long a.nine.now.words a.carried a.input.now))
 
-pub returns-in-Refused : goal.returns-in-Refused
-returns-in-Refused c =
-    rw (c.refuse.ensures.0, c.refuse.ensures.1)
-    (sym (faulty c.requires.0 c.args.out.now (rw c.in-Refused.is at c.survey_stream-seen.ensures.judged)))
-
-pub returns-else-limit-seen : goal.returns-else-limit-seen
-returns-else-limit-seen c =
-    let sound : Sound c.args.nine.now c.args.carried c.args.input.now c.args.limit c.survey_stream-seen.result.count =
+pub returns : goal.returns
+returns c =
     let a = c.args in
-    let count = (rw c.in-Granted.is at c.survey_stream-seen.ensures.counted) refl in
-    record {
-      fault = rw c.in-Granted.is at c.survey_stream-seen.ensures.judged;
-      needed = rw (needed_long a.nine.now a.carried a.input.now) count;
-    } in
-    let k = sound in
-    let fits = c.if-limit-seen.false in
-    c.write_expansion.ensures ∙ sym (enough_room_lem c.requires.0 c.args.out.now k.fault (omega (arith, fits, c.requires.1, k.needed)))
+    let m = a.nine.now.words in
+    let told = told_sound _ c.in_ok-count.ensures in
+    let long = needed_long m a.carried a.input.now in
+    let all = enough_room_lem m (omega arith) c.requires.0 a.out.now told.0 (omega (arith, c.if-limit-count.false, c.requires.1, told.1, long)) in
+    let w = c.write_replayed-carried.ensures in
+    let count : c.in_ok-count.count ≡ length (expansion_of m a.carried a.input.now).words = omega (arith, c.if-limit-count.false, c.requires.1, told.1, long) in
+    rw (w.onward, w.wrote, count) (sym all)

@@ -1,9 +1,6 @@
-use mathlib.Core.Bool.{true, false, not, ◌&&◌}
-use mathlib.Core.Path.{◌≡◌, refl, sym, ◌∙◌}
+use mathlib.Core.Path.{refl, sym, ◌∙◌}
 use borrow.Author.Tests.{not-true}
-use Rattle.bits.proofs.Choices.{and_left, and_right}
-use Rattle.expander_rules.specs.Stream.{mop_words, any_replay}
-use Rattle.expander_rules.specs.Replay.{is_loading}
+use Rattle.expander_rules.specs.Stream.{mop_words}
 use Rattle.expander_rules.proofs.Plain.{mop_plain}
 use Rattle.expander_replay.proofs.Passing.{plain_fits, passes_plain}
 use Rattle.expander.proofs.MopParts.{mop_alone}
@@ -11,22 +8,16 @@ use Rattle.expander.proofs.pass.pass_mop.Goals as goal
 
 pub put_stream-put-requires : goal.put_stream-put-requires
 put_stream-put-requires c =
-    let plain : (let a = c.args in (is_loading a.p.load ≡ false) × (any_replay (mop_words a.nine.now a.high a.word) ≡ false)) = let i = c.is_loading-on in
     let a = c.args in
-    let h : (a.plain && not i.result) ≡ true = sym c.both-direct.ensures ∙ c.if-direct.true in
-    let none = not-true (any_replay a.nine.now) (sym c.requires.0 ∙ and_left a.plain (not i.result) h) in
-    (sym i.ensures ∙ not-true i.result (and_right a.plain (not i.result) h), mop_plain a.nine.now none a.high a.word) in
-    let a = c.args in
-    let words = mop_words a.nine.now a.high a.word in
-    (c.requires.1.nine, rw (mop_alone a.nine.now a.high a.word c.requires.2) (plain_fits a.slots.now a.p words plain.0 plain.1 c.requires.3))
+    let m = a.nine.now.words in
+    let none = not-true _ (sym a.nine.now.none_replays ∙ c.if-nine.true) in
+    rw (mop_alone m a.high a.word c.requires.1)
+    (plain_fits a.slots.now a.p (mop_words m a.high a.word) (sym c.is_loading.ensures ∙ c.if-not-is_loading.true) (mop_plain m none a.high a.word) c.requires.2)
 
-pub returns-then-direct : goal.returns-then-direct
-returns-then-direct c =
-    let plain : (let a = c.args in (is_loading a.p.load ≡ false) × (any_replay (mop_words a.nine.now a.high a.word) ≡ false)) = let i = c.is_loading-on in
+pub returns-then-not-is_loading : goal.returns-then-not-is_loading
+returns-then-not-is_loading c =
     let a = c.args in
-    let h : (a.plain && not i.result) ≡ true = sym c.both-direct.ensures ∙ c.if-direct.true in
-    let none = not-true (any_replay a.nine.now) (sym c.requires.0 ∙ and_left a.plain (not i.result) h) in
-    (sym i.ensures ∙ not-true i.result (and_right a.plain (not i.result) h), mop_plain a.nine.now none a.high a.word) in
-    let a = c.args in
-    let wrote = rw (mop_alone a.nine.now a.high a.word c.requires.2) at c.put_stream-put.ensures.wrote in
-    passes_plain a.slots.now a.p (mop_words a.nine.now a.high a.word) plain.0 plain.1 _ wrote refl
+    let m = a.nine.now.words in
+    let none = not-true _ (sym a.nine.now.none_replays ∙ c.if-nine.true) in
+    let wrote = rw (mop_alone m a.high a.word c.requires.1) at c.put_stream-put.ensures.wrote in
+    passes_plain a.slots.now a.p (mop_words m a.high a.word) (sym c.is_loading.ensures ∙ c.if-not-is_loading.true) (mop_plain m none a.high a.word) _ wrote refl

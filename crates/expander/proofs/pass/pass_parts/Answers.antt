@@ -1,6 +1,3 @@
-use mathlib.Core.Path.{sym, ◌∙◌}
-use native.Mathlib.Omega.{arith}
-use lib.ListN.{length-take}
 use Rattle.expander_rules.proofs.Rounds.{rounds_next, rounds_end}
 use Rattle.expander_replay.proofs.Passing.{passing_start, passing_part, passing_next, passing_done}
 use Rattle.expander.specs.Parts.{mop_part}
@@ -10,35 +7,24 @@ use Rattle.expander.proofs.pass.pass_parts.Goals as goal
 pub loop-o-init : goal.loop-o-init
 loop-o-init c =
     let a = c.args in
-    let all = parts_all a.nine.now a.high a.word c.part_count-count.result c.part_count-count.ensures in
-    (omega arith, c.requires.0.part, rw (← all) (passing_start c.requires.2))
+    rw (← parts_all a.nine.now.words a.high a.word c.part_count-count.result c.part_count-count.ensures) (passing_start c.requires.2)
 
 pub put_part-n-requires : goal.put_part-n-requires
-put_part-n-requires c =
-    let f = c.requires.0 in
-    (record { nine = f.nine; few = f.few; part = c.loop-o.invariant.1 }, c.requires.1, rw (← c.part_count-count.ensures) c.loop-o-test.true)
-
-pub slice_bounds-pass_words-end-in-loop-o : goal.slice_bounds-pass_words-end-in-loop-o
-slice_bounds-pass_words-end-in-loop-o c =
-    simp length-take (omega (arith, c.put_part-n.auto.room, c.put_part-n.ensures.1, c.loop-o.invariant.1))
+put_part-n-requires c = (c.requires.0, c.requires.1, rw (← c.part_count-count.ensures) c.loop-o-test.true)
 
 pub pass_words-p-requires : goal.pass_words-p-requires
 pass_words-p-requires c =
-    let f = mop_part c.args.nine.now c.args.high c.args.word in
+    let f = mop_part c.args.nine.now.words c.args.high c.args.word in
     let next = rounds_next f c.loop-o.o c.part_count-count.result c.loop-o-test.true in
-    rw c.put_part-n.ensures.0 (passing_part c.loop-o.invariant.2 (f c.loop-o.o) _ next)
+    rw c.put_part-n.ensures.0 (passing_part c.loop-o.invariant (f c.loop-o.o) _ next)
 
 pub loop-o-preserved : goal.loop-o-preserved
 loop-o-preserved c =
-    let f = mop_part c.args.nine.now c.args.high c.args.word in
+    let f = mop_part c.args.nine.now.words c.args.high c.args.word in
     let next = rounds_next f c.loop-o.o c.part_count-count.result c.loop-o-test.true in
-    let went = rw c.put_part-n.ensures.0 at c.pass_words-p.ensures in
-    (omega arith, c.put_part-n.auto.room ∙ c.loop-o.invariant.1, passing_next c.loop-o.invariant.2 (f c.loop-o.o) _ next went)
-
-pub shape_of-slots : goal.shape_of-slots
-shape_of-slots c = c.loop-o.invariant.2.slots ∙ sym c.requires.2.slots
+    passing_next c.loop-o.invariant (f c.loop-o.o) _ next (rw c.put_part-n.ensures.0 at c.pass_words-p.ensures)
 
 pub returns : goal.returns
 returns c =
-    let f = mop_part c.args.nine.now c.args.high c.args.word in
-    passing_done c.loop-o.invariant.2 (rounds_end f c.loop-o.o c.part_count-count.result c.loop-o-test.false)
+    let f = mop_part c.args.nine.now.words c.args.high c.args.word in
+    passing_done c.loop-o.invariant (rounds_end f c.loop-o.o c.part_count-count.result c.loop-o-test.false)

@@ -1,18 +1,11 @@
-use native.Mathlib.Omega.{arith}
+use Rattle.std.proofs.Common.{rules, tests, ◌∙◌}
+use Rattle.std.proofs.lemmas.Iterator.{YieldsList-from_slice}
+use Rattle.std.proofs.lemmas.Iterator.Search.{any_from_yields_List}
 use Rattle.expander_rules.specs.Stream.{is_replay}
-use Rattle.expander_rules.proofs.Words.{any_next, any_end}
+use Rattle.expander_rules.proofs.Words.{any_listed}
 use Rattle.expander_replay.proofs.loads.any_replay.Goals as goal
 
-pub returns-then-found : goal.returns-then-found
-returns-then-found c =
-    let l = c.loop-i in
-    rw (← l.invariant.1, any_next is_replay c.args.words.now l.i c.loop-i-test.true, ← c.is_replay-found.ensures, c.if-found.true)
-
-pub loop-i-preserved : goal.loop-i-preserved
-loop-i-preserved c =
-    let l = c.loop-i in
-    let next = any_next is_replay c.args.words.now l.i c.loop-i-test.true in
-    (omega arith, rw (← l.invariant.1, next, ← c.is_replay-found.ensures, c.if-found.false))
-
 pub returns : goal.returns
-returns c = rw (← c.loop-i.invariant.1, any_end is_replay c.args.words.now c.loop-i.i c.loop-i-test.false)
+returns c =
+    let words = c.args.words.now in
+    any_from_yields_List is_replay _ _ _ c.any.ensures.ran (YieldsList-from_slice words cc) (λ x b q k. search (rules, tests)) ∙ any_listed is_replay words
