@@ -2,6 +2,7 @@
 use Prim.Native.Nat.{ℕ, zero, suc, ◌+◌, ◌≤◌}
 use mathlib.Core.Bool.{Bool, true, false, cond}
 use mathlib.Core.Path.{◌≡◌, refl, ap}
+use Rattle.std.specs.Prelude.{Option, Some, None}
 use native.Mathlib.Omega.{arith}
 use lib.Dec.{eqb, lit<}
 use lib.ListN.{length}
@@ -14,7 +15,6 @@ use Rattle.expander_rules.specs.Sizes.{slot_count}
 use Rattle.expander_rules.specs.State.{carry}
 use Rattle.expander_rules.specs.declared.Carried.{Carried}
 use Rattle.expander_rules.specs.declared.Load.{Load}
-use Rattle.expander_rules.specs.declared.Load.TheVariants.{NoLoad, Taking}
 use Rattle.program_carried.specs.CarriedFormat.{taking_bytes, kind_most, taking_numbers, load_numbers, load_from, numbers_of_load, load_format, carried_format, record_format, InBytes, CarriedRecords}
 
 numbers_right : Lawful load_numbers
@@ -25,11 +25,14 @@ numbers_right = dep_lawful (num 1 0 kind_most) taking_numbers taking_bytes (num_
         let word = num_lawful 4 0 (most_after k word_most) (lit< tt) (after_kind_room k word_most (word_most + 1) (lit< tt) (lit< tt)) in
         both_lawful _ _ word (both_lawful _ _ word (num_lawful 1 0 (most_after k 1) (lit< tt) (after_kind_room k 1 256 (lit< tt) (lit< tt))))
 
-load_there : (load : Load) → load_from (numbers_of_load load) ≡ load
+shown_there : (shown : Bool) → eqb (cond shown 1 0) 1 ≡ shown
+shown_there true = refl
+shown_there false = refl
+
+load_there : (load : Option Load) → load_from (numbers_of_load load) ≡ load
 unfolding load_from
-load_there NoLoad = refl
-load_there (Taking next left true) = refl
-load_there (Taking next left false) = refl
+load_there None = refl
+load_there (Some load) = rw (shown_there load.shown)
 
 shown_back_lem : (shown : ℕ) → shown ≤ 1 → cond (eqb shown 1) 1 0 ≡ shown
 shown_back_lem zero h = refl
@@ -64,10 +67,10 @@ shown_small : (shown : Bool) → cond shown 1 0 ≤ 1
 shown_small true = omega arith
 shown_small false = omega arith
 
-load_ok : (load : Load) → InBytes load → load_format.Ok load
+load_ok : (load : Option Load) → InBytes load → load_format.Ok load
 unfolding most_after
-load_ok NoLoad h = (tt, ((omega arith, omega arith), ((omega arith, omega arith), ((omega arith, omega arith), (omega arith, omega arith)))))
-load_ok (Taking next left shown) h = (tt, ((omega arith, omega arith), ((omega arith, h.0), ((omega arith, h.1), (omega arith, shown_small shown)))))
+load_ok None h = (tt, ((omega arith, omega arith), ((omega arith, omega arith), ((omega arith, omega arith), (omega arith, omega arith)))))
+load_ok (Some load) h = (tt, ((omega arith, omega arith), ((omega arith, h.0), ((omega arith, h.1), (omega arith, shown_small load.shown)))))
 
 carried_ok : (c : Carried) → c.high_mask ≤ half_most → length c.slots ≡ slot_count → all_at_most word_most c.slots ≡ true → InBytes c.load →
     carried_format.Ok c

@@ -1,14 +1,14 @@
 -- Record 38, what an expander carries, as a format.
-use Rattle.std.specs.Prelude.{ℕ, ◌+◌, ◌*◌, ◌≤◌, true, cond, List, ◌≡◌, eqb, length}
+use Rattle.std.specs.Prelude.{ℕ, ◌+◌, ◌*◌, ◌≤◌, true, cond, Option, Some, None, List, ◌≡◌, eqb, length}
 use Rattle.bits.specs.Bytes.{Bytes}
 use Rattle.bits.specs.Ranges.{all_at_most}
 use Rattle.machine.specs.Sizes.{half_most, word_most}
 use Rattle.format.specs.Format.{Format, num, dep, both, numbers, via, kind, accepts, most_after, head_bytes}
 use Rattle.expander_rules.specs.Sizes.{slot_count}
+use Rattle.expander_rules.specs.Replay.{taking}
 use Rattle.expander_rules.specs.State.{carry}
 use Rattle.expander_rules.specs.declared.Carried.{Carried}
 use Rattle.expander_rules.specs.declared.Load.{Load}
-use Rattle.expander_rules.specs.declared.Load.TheVariants.{NoLoad, Taking}
 
 -- ---- how many bytes: a load after its kind byte, and whole; the slots; the body; the record with its head
 abbrev pub taking_bytes : ℕ
@@ -39,14 +39,14 @@ taking_numbers k = both (num 4 0 (most_after k word_most)) (both (num 4 0 (most_
 abbrev pub load_numbers : Format (ℕ × (ℕ × (ℕ × ℕ)))
 load_numbers = dep (num 1 0 kind_most) taking_numbers taking_bytes
 
-unfoldable pub load_from : ℕ × (ℕ × (ℕ × ℕ)) → Load
-load_from t = cond (eqb t.0 0) NoLoad (Taking t.1.0 t.1.1.0 (eqb t.1.1.1 1))
+unfoldable pub load_from : ℕ × (ℕ × (ℕ × ℕ)) → Option Load
+load_from t = cond (eqb t.0 0) None (taking t.1.0 t.1.1.0 (eqb t.1.1.1 1))
 
-abbrev pub numbers_of_load : Load → ℕ × (ℕ × (ℕ × ℕ))
-numbers_of_load NoLoad = (0, (0, (0, 0)))
-numbers_of_load (Taking next left shown) = (1, (next, (left, cond shown 1 0)))
+abbrev pub numbers_of_load : Option Load → ℕ × (ℕ × (ℕ × ℕ))
+numbers_of_load None = (0, (0, (0, 0)))
+numbers_of_load (Some load) = (1, (load.next, (load.left, cond load.shown 1 0)))
 
-abbrev pub load_format : Format Load
+abbrev pub load_format : Format (Option Load)
 load_format = via load_from numbers_of_load load_numbers
 
 -- ---- the whole
@@ -61,9 +61,9 @@ abbrev pub record_format : Format Carried
 record_format = kind 38 carried_format
 
 -- what a load's numbers may be: of 4 bytes each
-abbrev pub InBytes : Load → Type 0
-InBytes NoLoad = Unit
-InBytes (Taking next left shown) = (next ≤ word_most) × (left ≤ word_most)
+abbrev pub InBytes : Option Load → Type 0
+InBytes None = Unit
+InBytes (Some load) = (load.next ≤ word_most) × (load.left ≤ word_most)
 
 -- what is carried is read back from its record; and each sound record is that of what is read from it
 pub record CarriedRecords : Type 0 where

@@ -9,8 +9,8 @@ use expander_rules::sizes::SLOTS;
 use expander_rules::{Carried, Load};
 use format::HEAD_BYTES;
 use format::check::{field, fields, good_across, most_after};
-use format::number::{read, read_half, write, write_half};
-use format::run::{read_words, write_head, write_words};
+use format::number::{read, write};
+use format::run::{read_run, write_head, write_run};
 
 // How many bytes: a load, the slots, the body, and the record with its head.
 const LOAD_BYTES: usize = 1 + 4 + 4 + 1;
@@ -36,11 +36,11 @@ fn load_good(s: &[u8], at: usize) -> usize
     requires { (at ≤ 100000) × (at + load_bytes ≤ length s.now) }
     ensures { (result ≡ load_format.good (drop at s.now)) × (result ≤ load_bytes) }
 {
-    let k = read(s, at, 1);
-    let kind = field(s, at, 1, 0, 1);
-    let next = field(s, at + 1, 4, 0, most_after(k, u32::MAX));
-    let left = field(s, at + 5, 4, 0, most_after(k, u32::MAX));
-    let shown = field(s, at + 9, 1, 0, most_after(k, 1));
+    let k = read::<1>(s, at);
+    let kind = field::<1>(s, at, 0, 1);
+    let next = field::<4>(s, at + 1, 0, most_after(k, u32::MAX));
+    let left = field::<4>(s, at + 5, 0, most_after(k, u32::MAX));
+    let shown = field::<1>(s, at + 9, 0, most_after(k, 1));
     good_across(kind, 1, good_across(next, 4, good_across(left, 4, shown)))
 }
 
@@ -49,35 +49,36 @@ pub fn is_sound(s: &[u8], at: usize) -> bool
     requires { (at ≤ 1000) × (at + carried_bytes ≤ length s.now) }
     ensures { result ≡ eqb (carried_format.good (drop at s.now)) carried_bytes }
 {
-    let mask = field(s, at, 2, 0, 65535);
-    let slots = fields(s, at + SLOTS_AT, SLOTS, 4, u32::MAX);
+    let mask = field::<2>(s, at, 0, 65535);
+    let slots = fields::<4>(s, at + SLOTS_AT, SLOTS, u32::MAX);
     let load = load_good(s, at + LOAD_AT);
     good_across(mask, 2, good_across(slots, SLOT_BYTES, load)) == CARRIED_BYTES
 }
 
 // The load of four numbers.
-fn load_from(kind: u32, next: u32, left: u32, shown: u32) -> Load
+#[tactic(auto, unfolding(crate::specs::CarriedFormat::load_from))]
+fn load_from(kind: u32, next: u32, left: u32, shown: u32) -> Option<Load>
     ensures { result ≡ load_from (kind, (next, (left, shown))) }
 {
     if kind == 0 {
-        return Load::NoLoad;
+        return None;
     }
-    Load::Taking {
+    Some(Load {
         next,
         left,
         shown: shown == 1,
-    }
+    })
 }
 
 // The load at a place. Its bytes are there.
-fn read_load(s: &[u8], at: usize) -> Load
+fn read_load(s: &[u8], at: usize) -> Option<Load>
     requires { at + load_bytes ≤ length s.now }
     ensures { result ≡ load_format.get (drop at s.now) }
 {
-    let kind = read(s, at, 1);
-    let next = read(s, at + 1, 4);
-    let left = read(s, at + 5, 4);
-    let shown = read(s, at + 9, 1);
+    let kind = read::<1>(s, at);
+    let next = read::<4>(s, at + 1);
+    let left = read::<4>(s, at + 5);
+    let shown = read::<1>(s, at + 9);
     load_from(kind, next, left, shown)
 }
 
@@ -86,9 +87,9 @@ pub fn read_carried(s: &[u8], at: usize) -> Carried
     requires { at + carried_bytes ≤ length s.now }
     ensures { result ≡ carried_format.get (drop at s.now) }
 {
-    let high_mask = read_half(s, at);
+    let high_mask = read::<2>(s, at) as u16;
     let mut slots = [0u32; SLOTS];
-    read_words(s, at + SLOTS_AT, 4, &mut slots);
+    read_run::<u32, 4>(s, at + SLOTS_AT, &mut slots);
     let load = read_load(s, at + LOAD_AT);
     Carried {
         high_mask,
@@ -102,26 +103,20 @@ fn write_numbers(out: &mut [u8], at: usize, kind: u32, next: u32, left: u32, sho
     requires { at + load_bytes ≤ length out.old }
     ensures { Wrote out.old at (load_numbers.put (kind, (next, (left, shown)))) out.new (at + load_bytes) }
 {
-    write(out, at, 1, kind);
-    write(out, at + 1, 4, next);
-    write(out, at + 5, 4, left);
-    write(out, at + 9, 1, shown);
+    write::<1>(out, at, kind);
+    write::<4>(out, at + 1, next);
+    write::<4>(out, at + 5, left);
+    write::<1>(out, at + 9, shown);
 }
 
 // A load. There is room.
-fn write_load(out: &mut [u8], at: usize, load: Load)
+fn write_load(out: &mut [u8], at: usize, load: Option<Load>)
     requires { at + load_bytes ≤ length out.old }
     ensures { Wrote out.old at (load_format.put load) out.new (at + load_bytes) }
 {
     match load {
-        Load::NoLoad => write_numbers(out, at, 0, 0, 0, 0),
-        Load::Taking { next, left, shown } => {
-            if shown {
-                write_numbers(out, at, 1, next, left, 1);
-            } else {
-                write_numbers(out, at, 1, next, left, 0);
-            }
-        }
+        None => write_numbers(out, at, 0, 0, 0, 0),
+        Some(load) => write_numbers(out, at, 1, load.next, load.left, load.shown as u32),
     }
 }
 
@@ -130,12 +125,10 @@ fn write_carried(out: &mut [u8], carried: Carried)
     requires { length out.old ≡ record_bytes }
     ensures { Wrote out.old 0 (record_format.put carried) out.new record_bytes }
 {
-    let slots = carried.slots;
-    let load = carried.load;
     write_head(out, 0, CARRIED_LENGTH, CARRIED_KIND);
-    write_half(out, HEAD_BYTES, carried.high_mask);
-    write_words(out, HEAD_BYTES + SLOTS_AT, 4, &slots);
-    write_load(out, HEAD_BYTES + LOAD_AT, load);
+    write::<2>(out, HEAD_BYTES, carried.high_mask as u32);
+    write_run::<u32, 4>(out, HEAD_BYTES + SLOTS_AT, &carried.slots);
+    write_load(out, HEAD_BYTES + LOAD_AT, carried.load);
 }
 
 // Internal: the whole record of what is carried.

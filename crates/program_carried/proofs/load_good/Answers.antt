@@ -8,7 +8,7 @@ use Rattle.program_carried.proofs.load_good.Goals as goal
 
 pub returns : goal.returns
 returns c =
-    let kind = c.read-k.ensures in
+    let kind = c.read-k.ensures.value in
     let at = c.args.at in
     let s = c.args.s.now in
     let next = after_kind_good 4 word_most at 1 s c.field-next.ensures.0 c.most_after.ensures kind in

@@ -9,16 +9,11 @@ use Rattle.program_carried.specs.CarriedFormat.{slot_bytes, record_bytes}
 use Rattle.std.proofs.Common.{rules}
 use Rattle.program_carried.proofs.write_carried.Goals as goal
 
-pub write_words-requires : goal.write_words-requires
-write_words-requires c =
-    let slots_long : length c.args.carried.slots ≡ slot_count = search rules in
-    (omega (arith, slots_long, c.requires, c.write_head.auto.out, c.write_half.auto.out), search rules, search rules)
-
 pub returns : goal.returns
 returns c =
     let slots_long : length c.args.carried.slots ≡ slot_count = search rules in
     wrote_to record_bytes (omega arith)
     (wrote_next (omega arith) c.write_head.ensures
-    (λ h'. wrote_next h' c.write_half.ensures
-    (λ h'. wrote_next h' c.write_words.ensures
+    (λ h'. wrote_next h' c.write.ensures
+    (λ h'. wrote_next h' c.write_run.ensures
     (λ _. wrote_from (head_bytes + (2 + slot_bytes)) (omega (arith, slots_long)) c.write_load.ensures))))
