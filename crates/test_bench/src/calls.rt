@@ -2,8 +2,9 @@
 use crate::case::Case;
 use crate::lengths::lent;
 use crate::print;
-use machine::access::Access;
+use crate::stores::Stores;
 use machine::control::Control;
+use machine::refusal::Refusal;
 use machine::sizes::{BANK_WORDS, CELL_MOST, CONFIG_WORDS, ROW_CELLS};
 use std::io;
 use test_machines::controls::draw_control;
@@ -12,48 +13,33 @@ use test_machines::number::set_number;
 use test_machines::sums;
 
 // The line of the stores, with a checksum of them all.
-fn print_stores(
-    rt: &HostRuntime,
-    gprs: &[u32],
-    dest: &[u16],
-    marks: &[bool],
-    src_a: &[u32],
-    src_b: &[u32],
-) -> io::Result<()> {
-    let words = sums::add_words(sums::start(), gprs);
-    let rows = sums::add_marks(sums::add_halves(words, dest), marks);
-    let all = sums::add_words(sums::add_words(rows, src_a), src_b);
+fn print_stores(rt: &HostRuntime, stores: &Stores) -> io::Result<()> {
+    let words = sums::add_words(sums::start(), &stores.gprs);
+    let rows = sums::add_marks(sums::add_halves(words, &stores.dest), &stores.marks);
+    let all = sums::add_words(sums::add_words(rows, &stores.src_a), &stores.src_b);
     print::print_filled(rt, sums::checksum(all))
 }
 
 // The stores from the seed.
-pub(crate) fn refill(
-    rt: &HostRuntime,
-    case: Case,
-    gprs: &mut [u32],
-    dest: &mut [u16],
-    marks: &mut [bool],
-    src_a: &mut [u32],
-    src_b: &mut [u32],
-) -> io::Result<()> {
-    let one = fill_words(case.seed, u32::MAX, gprs);
-    let two = fill_halves(one, dest);
-    let three = fill_marks(two, marks);
-    let four = fill_words(three, CELL_MOST, src_a);
-    fill_words(four, CELL_MOST, src_b);
-    print_stores(rt, gprs, dest, marks, src_a, src_b)
+pub(crate) fn refill(rt: &HostRuntime, case: Case, stores: &mut Stores) -> io::Result<()> {
+    let one = fill_words(case.seed, u32::MAX, &mut stores.gprs);
+    let two = fill_halves(one, &mut stores.dest);
+    let three = fill_marks(two, &mut stores.marks);
+    let four = fill_words(three, CELL_MOST, &mut stores.src_a);
+    fill_words(four, CELL_MOST, &mut stores.src_b);
+    print_stores(rt, stores)
 }
 
-pub(crate) fn read_gpr(rt: &HostRuntime, case: Case, gprs: &[u32]) -> io::Result<()> {
-    let n = lent(gprs.len(), case.lengths, 0);
-    let answer = bench_gprs::read_gpr(&gprs[..n], case.first, case.second);
+pub(crate) fn read_gpr(rt: &HostRuntime, case: Case, stores: &Stores) -> io::Result<()> {
+    let n = lent(stores.gprs.len(), case.lengths, 0);
+    let answer = bench_gprs::read_gpr(&stores.gprs[..n], case.first, case.second);
     print::print_read(rt, answer)
 }
 
-pub(crate) fn write_gpr(rt: &HostRuntime, case: Case, gprs: &mut [u32]) -> io::Result<()> {
-    let n = lent(gprs.len(), case.lengths, 0);
-    let answer = bench_gprs::write_gpr(&mut gprs[..n], case.first, case.second, case.third);
-    let sum = sums::add_words(sums::start(), gprs);
+pub(crate) fn write_gpr(rt: &HostRuntime, case: Case, stores: &mut Stores) -> io::Result<()> {
+    let n = lent(stores.gprs.len(), case.lengths, 0);
+    let answer = bench_gprs::write_gpr(&mut stores.gprs[..n], case.first, case.second, case.third);
+    let sum = sums::add_words(sums::start(), &stores.gprs);
     print::print_access(rt, answer, sums::checksum(sum))
 }
 
@@ -66,28 +52,26 @@ pub(crate) fn set_flags(config: &mut [u32], left: u32, right: u32) {
 }
 
 // The line of a call that reads a row.
-fn print_row16(rt: &HostRuntime, answer: Access, out: &[u16; ROW_CELLS + 1]) -> io::Result<()> {
+fn print_row16(
+    rt: &HostRuntime,
+    answer: Result<(), Refusal>,
+    out: &[u16; ROW_CELLS + 1],
+) -> io::Result<()> {
     let sum = sums::add_halves(sums::start(), out);
     print::print_access(rt, answer, sums::checksum(sum))
 }
 
-pub(crate) fn read_row16(
-    rt: &HostRuntime,
-    case: Case,
-    config: &[u32],
-    dest: &[u16],
-    marks: &[bool],
-) -> io::Result<()> {
+pub(crate) fn read_row16(rt: &HostRuntime, case: Case, stores: &Stores) -> io::Result<()> {
     let mut out = [0u16; ROW_CELLS + 1];
     fill_halves(case.seed, &mut out);
-    let c = lent(config.len(), case.lengths, 0);
-    let d = lent(dest.len(), case.lengths, 2);
-    let m = lent(marks.len(), case.lengths, 4);
+    let c = lent(stores.config.len(), case.lengths, 0);
+    let d = lent(stores.dest.len(), case.lengths, 2);
+    let m = lent(stores.marks.len(), case.lengths, 4);
     let n = lent(ROW_CELLS + 1, case.lengths, 6);
     let answer = bench_dest::read_row16(
-        &config[..c],
-        &dest[..d],
-        &marks[..m],
+        &stores.config[..c],
+        &stores.dest[..d],
+        &stores.marks[..m],
         case.first,
         case.second,
         &mut out[..n],
@@ -96,28 +80,26 @@ pub(crate) fn read_row16(
 }
 
 // The line of a call that reads a row.
-fn print_row32(rt: &HostRuntime, answer: Access, out: &[u32; ROW_CELLS + 1]) -> io::Result<()> {
+fn print_row32(
+    rt: &HostRuntime,
+    answer: Result<(), Refusal>,
+    out: &[u32; ROW_CELLS + 1],
+) -> io::Result<()> {
     let sum = sums::add_words(sums::start(), out);
     print::print_access(rt, answer, sums::checksum(sum))
 }
 
-pub(crate) fn read_row32(
-    rt: &HostRuntime,
-    case: Case,
-    config: &[u32],
-    dest: &[u16],
-    marks: &[bool],
-) -> io::Result<()> {
+pub(crate) fn read_row32(rt: &HostRuntime, case: Case, stores: &Stores) -> io::Result<()> {
     let mut out = [0u32; ROW_CELLS + 1];
     fill_words(case.seed, u32::MAX, &mut out);
-    let c = lent(config.len(), case.lengths, 0);
-    let d = lent(dest.len(), case.lengths, 2);
-    let m = lent(marks.len(), case.lengths, 4);
+    let c = lent(stores.config.len(), case.lengths, 0);
+    let d = lent(stores.dest.len(), case.lengths, 2);
+    let m = lent(stores.marks.len(), case.lengths, 4);
     let n = lent(ROW_CELLS + 1, case.lengths, 6);
     let answer = bench_dest::read_row32(
-        &config[..c],
-        &dest[..d],
-        &marks[..m],
+        &stores.config[..c],
+        &stores.dest[..d],
+        &stores.marks[..m],
         case.first,
         case.second,
         &mut out[..n],
@@ -126,57 +108,49 @@ pub(crate) fn read_row32(
 }
 
 // The line of a call that writes Dest.
-fn print_dest(rt: &HostRuntime, answer: Access, dest: &[u16], marks: &[bool]) -> io::Result<()> {
-    let sum = sums::add_marks(sums::add_halves(sums::start(), dest), marks);
+fn print_dest(rt: &HostRuntime, answer: Result<(), Refusal>, stores: &Stores) -> io::Result<()> {
+    let sum = sums::add_marks(sums::add_halves(sums::start(), &stores.dest), &stores.marks);
     print::print_access(rt, answer, sums::checksum(sum))
 }
 
-pub(crate) fn write_row16(
-    rt: &HostRuntime,
-    case: Case,
-    config: &[u32],
-    dest: &mut [u16],
-    marks: &mut [bool],
-) -> io::Result<()> {
+pub(crate) fn write_row16(rt: &HostRuntime, case: Case, stores: &mut Stores) -> io::Result<()> {
     let mut cells = [0u16; ROW_CELLS + 1];
     fill_halves(case.seed, &mut cells);
-    let c = lent(config.len(), case.lengths, 0);
-    let d = lent(dest.len(), case.lengths, 2);
-    let m = lent(marks.len(), case.lengths, 4);
+    let c = lent(stores.config.len(), case.lengths, 0);
+    let d = lent(stores.dest.len(), case.lengths, 2);
+    let m = lent(stores.marks.len(), case.lengths, 4);
     let n = lent(ROW_CELLS + 1, case.lengths, 6);
+    let dest = &mut stores.dest[..];
+    let marks = &mut stores.marks[..];
     let answer = bench_dest::write_row16(
-        &config[..c],
+        &stores.config[..c],
         &mut dest[..d],
         &mut marks[..m],
         case.first,
         case.second,
         &cells[..n],
     );
-    print_dest(rt, answer, dest, marks)
+    print_dest(rt, answer, stores)
 }
 
-pub(crate) fn write_row32(
-    rt: &HostRuntime,
-    case: Case,
-    config: &[u32],
-    dest: &mut [u16],
-    marks: &mut [bool],
-) -> io::Result<()> {
+pub(crate) fn write_row32(rt: &HostRuntime, case: Case, stores: &mut Stores) -> io::Result<()> {
     let mut cells = [0u32; ROW_CELLS + 1];
     fill_words(case.seed, u32::MAX, &mut cells);
-    let c = lent(config.len(), case.lengths, 0);
-    let d = lent(dest.len(), case.lengths, 2);
-    let m = lent(marks.len(), case.lengths, 4);
+    let c = lent(stores.config.len(), case.lengths, 0);
+    let d = lent(stores.dest.len(), case.lengths, 2);
+    let m = lent(stores.marks.len(), case.lengths, 4);
     let n = lent(ROW_CELLS + 1, case.lengths, 6);
+    let dest = &mut stores.dest[..];
+    let marks = &mut stores.marks[..];
     let answer = bench_dest::write_row32(
-        &config[..c],
+        &stores.config[..c],
         &mut dest[..d],
         &mut marks[..m],
         case.first,
         case.second,
         &cells[..n],
     );
-    print_dest(rt, answer, dest, marks)
+    print_dest(rt, answer, stores)
 }
 
 // Puts a number at a place, if there is one, and answers what stood there.
@@ -193,13 +167,14 @@ fn put_at(cells: &mut [u32], place: u32, value: u32) -> u32 {
 fn ask_source(
     case: Case,
     control: Control,
-    src_a: &mut [u32],
-    src_b: &mut [u32],
+    stores: &mut Stores,
     cells: &[u32],
-) -> Access {
-    let a = lent(src_a.len(), case.lengths, 0);
-    let b = lent(src_b.len(), case.lengths, 2);
+) -> Result<(), Refusal> {
+    let a = lent(stores.src_a.len(), case.lengths, 0);
+    let b = lent(stores.src_b.len(), case.lengths, 2);
     let n = lent(cells.len(), case.lengths, 4);
+    let src_a = &mut stores.src_a[..];
+    let src_b = &mut stores.src_b[..];
     bench_sources::write_source_row(
         control,
         &mut src_a[..a],
@@ -211,50 +186,48 @@ fn ask_source(
 }
 
 // The call on cells of which one may be out of range.
-fn ask_source_row(case: Case, src_a: &mut [u32], src_b: &mut [u32]) -> Access {
+fn ask_source_row(case: Case, stores: &mut Stores) -> Result<(), Refusal> {
     let mut cells = [0u32; ROW_CELLS + 1];
     fill_words(case.seed, CELL_MOST, &mut cells);
     put_at(&mut cells, case.right % 256, case.third);
     let drawn = draw_control(case.left);
     let control = set_number(drawn.control, case.number);
-    ask_source(case, control, src_a, src_b, &cells)
+    ask_source(case, control, stores, &cells)
 }
 
 // The line of a call that writes the source files.
-fn print_sources(rt: &HostRuntime, answer: Access, src_a: &[u32], src_b: &[u32]) -> io::Result<()> {
-    let sum = sums::add_words(sums::add_words(sums::start(), src_a), src_b);
-    print::print_access(rt, answer, sums::checksum(sum))
+fn print_sources(rt: &HostRuntime, answer: Result<(), Refusal>, stores: &Stores) -> io::Result<()> {
+    let sum = sums::add_words(sums::start(), &stores.src_a);
+    print::print_access(
+        rt,
+        answer,
+        sums::checksum(sums::add_words(sum, &stores.src_b)),
+    )
 }
 
 // A number out of range stands in each store during the call, if the case says where.
 pub(crate) fn write_source_row(
     rt: &HostRuntime,
     case: Case,
-    src_a: &mut [u32],
-    src_b: &mut [u32],
+    stores: &mut Stores,
 ) -> io::Result<()> {
     let in_a = case.right / 256 % 4096;
     let in_b = case.right / 1048576;
-    let old_a = put_at(src_a, in_a, case.third);
-    let old_b = put_at(src_b, in_b, case.third);
-    let answer = ask_source_row(case, src_a, src_b);
-    print_sources(rt, answer, src_a, src_b)?;
-    put_at(src_a, in_a, old_a);
-    put_at(src_b, in_b, old_b);
+    let old_a = put_at(&mut stores.src_a, in_a, case.third);
+    let old_b = put_at(&mut stores.src_b, in_b, case.third);
+    let answer = ask_source_row(case, stores);
+    print_sources(rt, answer, stores)?;
+    put_at(&mut stores.src_a, in_a, old_a);
+    put_at(&mut stores.src_b, in_b, old_b);
     Ok(())
 }
 
-pub(crate) fn show_row<'a>(
-    rt: &HostRuntime,
-    case: Case,
-    src_a: &'a [u32],
-    src_b: &'a [u32],
-) -> io::Result<()> {
-    let a = lent(src_a.len(), case.lengths, 0);
-    let b = lent(src_b.len(), case.lengths, 2);
+pub(crate) fn show_row(rt: &HostRuntime, case: Case, stores: &Stores) -> io::Result<()> {
+    let a = lent(stores.src_a.len(), case.lengths, 0);
+    let b = lent(stores.src_b.len(), case.lengths, 2);
     let shown = bench_sources::show_row(
-        &src_a[..a],
-        &src_b[..b],
+        &stores.src_a[..a],
+        &stores.src_b[..b],
         case.first,
         case.second,
         case.third,

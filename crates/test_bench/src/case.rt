@@ -1,6 +1,6 @@
 // A case: eleven words of 4 bytes, the lowest byte first.
-use format::run::read_words;
-use test_machines::number::Number;
+use format::run::read_run;
+use test_machines::number::{Kind, Number};
 
 const WORDS: usize = 11;
 
@@ -27,9 +27,9 @@ pub(crate) struct Case {
 
 pub(crate) fn read(record: &[u8; BYTES]) -> Case {
     let mut words = [0u32; WORDS];
-    read_words(record, 0, 4, &mut words);
+    read_run::<u32, 4>(record, 0, &mut words);
     let number = Number {
-        kind: words[8],
+        kind: Kind::from(words[8]),
         place: words[9],
         value: words[10],
     };

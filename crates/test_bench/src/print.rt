@@ -1,7 +1,5 @@
 // A line: the answer and a checksum.
-use bench_gprs::GprRead;
-use machine::access::Access;
-use machine::refusal::{Refusal, refusal_number};
+use machine::refusal::Refusal;
 use std::io;
 
 fn print_number(rt: &HostRuntime, n: u32) -> io::Result<()> {
@@ -15,7 +13,7 @@ fn print_end(rt: &HostRuntime) -> io::Result<()> {
 
 fn print_refused(rt: &HostRuntime, r: Refusal) -> io::Result<()> {
     rt.write_all(b"refused")?;
-    print_number(rt, refusal_number(r))
+    print_number(rt, u32::from(r))
 }
 
 pub(crate) fn print_filled(rt: &HostRuntime, sum: u32) -> io::Result<()> {
@@ -24,23 +22,25 @@ pub(crate) fn print_filled(rt: &HostRuntime, sum: u32) -> io::Result<()> {
     print_end(rt)
 }
 
-pub(crate) fn print_read(rt: &HostRuntime, answer: GprRead) -> io::Result<()> {
+pub(crate) fn print_read(rt: &HostRuntime, answer: Result<u32, Refusal>) -> io::Result<()> {
     match answer {
-        GprRead::Value(v) => {
+        Ok(v) => {
             rt.write_all(b"value")?;
             print_number(rt, v)?;
         }
-        GprRead::Refused(r) => print_refused(rt, r)?,
+        Err(r) => print_refused(rt, r)?,
     }
     print_end(rt)
 }
 
-pub(crate) fn print_access(rt: &HostRuntime, answer: Access, sum: u32) -> io::Result<()> {
+pub(crate) fn print_access(
+    rt: &HostRuntime,
+    answer: Result<(), Refusal>,
+    sum: u32,
+) -> io::Result<()> {
     match answer {
-        Access::Granted => {
-            rt.write_all(b"done")?;
-        }
-        Access::Refused(r) => print_refused(rt, r)?,
+        Ok(()) => rt.write_all(b"done")?,
+        Err(r) => print_refused(rt, r)?,
     }
     print_number(rt, sum)?;
     print_end(rt)
