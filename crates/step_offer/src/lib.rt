@@ -68,5 +68,10 @@ pub fn offer(control: Control, stores: &mut SizedStores<'_>, t: ThreadNumber, wo
         bank_a: control.pointers[0] as usize,
         bank_b: control.pointers[1] as usize,
     };
-    finished(with_cause(word.store_word(stores), j.cause), control, t, j.drops)
+    finished(
+        with_cause(word.store_word(stores), j.cause),
+        control,
+        t,
+        j.drops,
+    )
 }

@@ -94,7 +94,7 @@ impl StoreWord {
             0x45 => set_dma_reg(s.gprs, t, word, blocks),
             0x58 => arithmetic(s.gprs, t, word, blocks, false),
             0x5A => arithmetic(s.gprs, t, word, blocks, true),
-            0x60 => dma_nop(s.gprs, t, word, blocks),
+            0x60 => dma_nop(s.gprs, t.index(), word, blocks),
             _ => self.config_word(s),
         }
     }

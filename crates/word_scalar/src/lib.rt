@@ -30,7 +30,7 @@ pub fn set_dma_reg(gprs: &mut [u32; GPRS], t: ThreadNumber, word: u32, blocks: u
     Outcome::Passed
 }
 
-// ADDDMAREG, or MULDMAREG.
+// ADDDMAREG, or MULDMAREG: which of the two is a flag of its promise, `arithmetic_of multiply`.
 pub fn arithmetic(
     gprs: &mut [u32; GPRS],
     t: ThreadNumber,
@@ -49,8 +49,8 @@ pub fn arithmetic(
     Outcome::Passed
 }
 
-// DMANOP.
-pub fn dma_nop(gprs: &[u32], t: ThreadNumber, word: u32, blocks: u16) -> Outcome
+// DMANOP, of a thread of any number.
+pub fn dma_nop(gprs: &[u32], t: usize, word: u32, blocks: u16) -> Outcome
     ensures { GprsOffered blocks t (dma_nop_of word) gprs.now (told_outcome result) gprs.now }
 {
     held_up::<5>(true, true, blocks).unwrap_or(Outcome::Passed)

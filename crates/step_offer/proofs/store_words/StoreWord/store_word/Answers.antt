@@ -16,4 +16,4 @@ returns-in-90-clause-answer c dest = rw c.in-90.is (c.arithmetic-in-90.ensures _
 
 pub returns-in-96-clause-answer : goal.returns-in-96-clause-answer
 unfolding said
-returns-in-96-clause-answer c dest = rw c.in-96.is (c.dma_nop.ensures _ _ _ _ (stores_in c.args.s.now dest))
+returns-in-96-clause-answer c dest = rw (c.in-96.is, ← c.index.ensures.value) (c.dma_nop.ensures _ _ _ _ (stores_in c.args.s.now dest))
