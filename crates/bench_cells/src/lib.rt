@@ -10,7 +10,7 @@ use machine::sizes::ROW_CELLS;
 
 // One half of each 32-bit cell: the high one stands from bit 16 on, the low one from bit 0 on. Internal: the bit is among the 32.
 #[tactic(auto, using(crate::proofs::Halves::map_each))]
-pub fn halves_of<const AT: u32>(cells: &[u32; ROW_CELLS]) -> [u16; ROW_CELLS]
+pub fn halves_from<const AT: u32>(cells: &[u32; ROW_CELLS]) -> [u16; ROW_CELLS]
     requires { AT < 32 }
     ensures { result ≡ map (field AT 16) cells.now }
 {

@@ -14,7 +14,7 @@ ghost use Rattle.bench_dest.specs.Promises.{DestPromises};
 
 use crate::stored::{read_stored, write_stored};
 use crate::view::find_row;
-use bench_cells::{halves_of, wide_of};
+use bench_cells::{halves_from, wide_of};
 use bits::put::put_all;
 use dest::maps::{high_row, low_row, storage_row};
 use dest::rows::{VIEW_16_ROWS, VIEW_32_ROWS};
@@ -96,8 +96,8 @@ pub fn write_row32(
 {
     let cells = cells.as_array::<ROW_CELLS>().ok_or(Refusal::BadLength)?;
     let (flags, view) = find_row::<VIEW_32_ROWS>(config, dest.len(), marks.len(), bank, row)?;
-    write_stored(dest, marks, high_row(flags, view), &halves_of::<16>(cells));
-    write_stored(dest, marks, low_row(flags, view), &halves_of::<0>(cells));
+    write_stored(dest, marks, high_row(flags, view), &halves_from::<16>(cells));
+    write_stored(dest, marks, low_row(flags, view), &halves_from::<0>(cells));
     Ok(())
 }
 
