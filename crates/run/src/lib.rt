@@ -6,19 +6,17 @@ mod course;
 
 ghost use Rattle.std.specs.Prelude.{◌≡◌};
 ghost use Rattle.machine.specs.Machine.{machine};
-ghost use Rattle.run_order.specs.Cursor.{streams};
-ghost use Rattle.run_order.specs.Ending.{told_ending};
-ghost use Rattle.run_order.specs.Stalls.{told_stalls};
-ghost use Rattle.run_rules.specs.Run.{run_of, summary_of, summary};
-ghost use Rattle.run.specs.Ran.{Tells};
+ghost use Rattle.run_order.specs.Cursor.{streams_in};
+ghost use Rattle.run_rules.specs.Run.{run_of, summary_of};
+ghost use Rattle.run.specs.Ran.{told_run};
 
 use crate::checks::check_call;
-use crate::course::{Course, take_turns};
-use machine::access::Access;
+use crate::course::take_turns;
 use machine::control::Control;
-use run_order::cursor::Cursor;
+use machine::lent::{MachineView, SizedStores};
+use run_order::cursor::{Cursor, StreamsView};
 use run_order::ending::Ending;
-use run_order::stalls::{LastStalls, last_stalls, no_stalls};
+use run_order::stalls::{LastStalls, no_stalls};
 
 // How a run ended, the turns it took, the control part and cursor that it leaves, and each thread's last stall. The rest of the machine
 // is written where it is lent.
@@ -31,24 +29,8 @@ pub struct Ran {
     pub stalls: LastStalls,
 }
 
-// The run with its last stalls told.
-fn told(c: Course) -> Ran
-    ensures { Tells c result }
-{
-    let answer = c.answer;
-    let control = c.control;
-    let cursor = c.cursor;
-    let pairs = c.pairs;
-    Ran {
-        answer,
-        turns: c.turns,
-        control,
-        cursor,
-        stalls: last_stalls(pairs),
-    }
-}
-
-// Runs the three streams from the cursor for at most `budget` turns: refusals 4, 10, 5 and 6, then turns until the run ends.
+// Runs the three streams from the cursor for at most `budget` turns: refusals 4, 10, 5 and 6, then turns until the run ends. The parts
+// are lent one by one: behind a reference to a struct of them none could be lent on as an array, which the borrow checker does not cover.
 pub fn run(
     control: Control,
     settings: &mut [u16],
@@ -58,39 +40,56 @@ pub fn run(
     marks: &mut [bool],
     src_a: &mut [u32],
     src_b: &mut [u32],
-    s0: &[u32],
-    s1: &[u32],
-    s2: &[u32],
+    streams: StreamsView<'_>,
     cursor: Cursor,
     budget: u32,
 ) -> Ran
-    ensures { summary (told_ending result.answer) result.turns (machine result.control settings.new gprs.new config.new dest.now marks.new src_a.new src_b.new) result.cursor (told_stalls result.stalls) ≡ summary_of cursor (run_of (streams s0.now s1.now s2.now) (machine control settings.old gprs.old config.old dest.now marks.old src_a.old src_b.old) cursor budget) }
+    ensures { told_run result (machine result.control settings.new gprs.new config.new dest.now marks.new src_a.new src_b.new) ≡ summary_of cursor (run_of (streams_in streams.entry) (machine control settings.old gprs.old config.old dest.now marks.old src_a.old src_b.old) cursor budget) }
 {
-    let k = check_call(
+    let view = MachineView {
         control,
-        &settings[..],
-        &gprs[..],
-        &config[..],
+        settings: &settings[..],
+        gprs: &gprs[..],
+        config: &config[..],
         dest,
-        &marks[..],
-        &src_a[..],
-        &src_b[..],
-        s0,
-        s1,
-        s2,
-        cursor,
-        budget,
-    );
-    match k {
-        Access::Refused(r) => Ran {
+        marks: &marks[..],
+        src_a: &src_a[..],
+        src_b: &src_b[..],
+    };
+    if let Err(r) = check_call(view, streams, cursor, budget) {
+        return Ran {
             answer: Ending::CallRefused(r),
             turns: 0,
             control,
             cursor,
             stalls: no_stalls(),
-        },
-        Access::Granted => told(take_turns(
-            control, settings, gprs, config, marks, src_a, src_b, s0, s1, s2, cursor, budget,
-        )),
+        };
     }
+    let Some(settings) = settings.as_mut_array() else {
+        unreachable!()
+    };
+    let Some(gprs) = gprs.as_mut_array() else {
+        unreachable!()
+    };
+    let Some(config) = config.as_mut_array() else {
+        unreachable!()
+    };
+    let Some(marks) = marks.as_mut_array() else {
+        unreachable!()
+    };
+    let Some(src_a) = src_a.as_mut_array() else {
+        unreachable!()
+    };
+    let Some(src_b) = src_b.as_mut_array() else {
+        unreachable!()
+    };
+    let mut stores = SizedStores {
+        settings,
+        gprs,
+        config,
+        marks,
+        src_a,
+        src_b,
+    };
+    take_turns(control, &mut stores, streams, cursor, budget)
 }

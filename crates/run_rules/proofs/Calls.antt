@@ -11,6 +11,7 @@ use Rattle.machine.specs.declared.refusal.Refusal.{Refusal}
 use Rattle.machine.specs.Sizes.{stream_most, budget_most}
 use Rattle.machine.specs.Machine.{Machine}
 use Rattle.machine.specs.Formed.{sized, formed}
+use Rattle.machine.proofs.StoreFacts.{SizedFacts, sized_facts}
 use Rattle.std.specs.Prelude.{Result, Ok, Err}
 use Rattle.machine.specs.Answers.{Told, accepted, refusal, told, provided}
 use Rattle.run_order.specs.declared.cursor.Cursor.{Cursor}
@@ -25,9 +26,9 @@ module _ (s : Streams) (m : Machine) (c : Cursor) (budget : ℕ) (k : Result (Un
   unfolding run_of
   call_refused_lem r e = rw (← ek, e)
 
-  pub call_runs : (u : Unit {0}) → k ≡ Ok u → run_from budget s 0 m c ≡ run_of s m c budget
-  unfolding run_of
-  call_runs u e = rw (← ek, e)
+pub run_taken : (s : Streams) (m : Machine) (c : Cursor) (budget : ℕ) → call_check s m c budget ≡ accepted tt → run_from budget s 0 m c ≡ run_of s m c budget
+unfolding run_of
+run_taken s m c budget e = rw e
 
 lengths_of : (s : Streams) → streams_sized s ≡ true → Lengths s
 unfolding streams_sized
@@ -96,11 +97,23 @@ call_checked s m c budget e =
       few = leb-true budget budget_most e6.0;
     }
 
-pub granted_ready : (s : Streams) (m : Machine) (c : Cursor) (budget : ℕ) (k : Result (Unit {0}) Refusal) (u : Unit {0}) → told k ≡ call_check s m c budget → k ≡ Ok u → Ready s m c
-granted_ready s m c budget k u e h = (call_checked s m c budget (rw (← e, h))).ready
-
 -- a call that is ready, with a budget within its limit, is not refused
 pub ready_call : (s : Streams) (m : Machine) (c : Cursor) (budget : ℕ) → Ready s m c → budget ≤ budget_most → call_check s m c budget ≡ accepted tt
 unfolding call_check
 ready_call s m c budget r h =
     rw (and_left (sized m) (formed m) r.whole, and_right (sized m) (formed m) r.whole, of_lengths s r.lengths, of_within s c r.within, le-leb budget budget_most h)
+
+-- what the code's answer shows where it is no refusal
+module _ (s : Streams) (m : Machine) (c : Cursor) (budget : ℕ) (k : Result (Unit {0}) Refusal) (ek : told k ≡ call_check s m c budget) (h : (r : Refusal) → k ≡ Err r → ⊥) where
+  fine : (x : Result (Unit {0}) Refusal) → k ≡ x → call_check s m c budget ≡ accepted tt
+  fine (Ok u) e = rw (← ek, e)
+  fine (Err r) e = absurd (h r e)
+
+  pub call_ready : Ready s m c
+  call_ready = (call_checked s m c budget (rw (fine k refl))).ready
+
+  pub call_sizes : SizedFacts m.settings m.kept
+  call_sizes = sized_facts m (and_left (sized m) (formed m) call_ready.whole)
+
+  pub call_taken : run_from budget s 0 m c ≡ run_of s m c budget
+  call_taken = run_taken s m c budget (fine k refl)

@@ -8,7 +8,6 @@ use lib.ListN.{length}
 use Rattle.machine.specs.Machine.{Machine}
 use Rattle.machine.specs.Answers.{Told}
 use Rattle.machine.specs.Outcomes.{Progress}
-use Rattle.machine.proofs.StoreFacts.{SizedFacts}
 use Rattle.run_order.specs.declared.cursor.Cursor.{Cursor}
 use Rattle.run_order.specs.declared.ending.Ending.{Ending}
 use Rattle.std.specs.Prelude.{Option, Some, None}
@@ -18,7 +17,7 @@ use Rattle.run_order.specs.Stalls.{Stalls, no_stalls, stalls_after}
 use Rattle.run_order.specs.Ending.{halt_of, refused_word, quiet_after, goes_on, told_ending, told_halt}
 use Rattle.run_rules.specs.Ready.{Ready, ReadyApart}
 use Rattle.run_rules.proofs.Halting.{due_after, run_halts, run_refused, run_on}
-use Rattle.run_rules.proofs.Turning.{turn_ready, ready_parts}
+use Rattle.run_rules.proofs.Turning.{turn_ready}
 
 -- what comes back of a run, where `turns` turns went before it
 abbrev pub later : ℕ → Summary → Summary
@@ -35,15 +34,12 @@ later_turn n l c t r =
 pub record Going (s : Streams) (budget : ℕ) (m₀ : List ℕ → Machine) (c₀ : Cursor) (m : List ℕ → Machine) (c : Cursor) (quiet turns : ℕ) (l : Stalls) : Type 0 where
   pub cells : List ℕ
   pub ready : Ready s (m cells) c
-  pub sizes₀ : SizedFacts (m₀ cells).settings (m₀ cells).kept
-  pub sizes : SizedFacts (m cells).settings (m cells).kept
   pub within : turns ≤ budget
   pub whole : (d : List ℕ) → summary_of c₀ (run_from budget s 0 (m₀ d) c₀) ≡ later turns (summary_from l c (run_from (budget - turns) s quiet (m d) c))
 
 pub going_start : (s : Streams) (budget : ℕ) (m : List ℕ → Machine) (c : Cursor) → ReadyApart s m c → (l : Stalls) → l ≡ no_stalls → Going s budget m c m c 0 0 l
 going_start s budget m c r l e =
-    let sizes = (ready_parts s (m r.cells) c r.ready).sizes in
-    record { cells = r.cells; ready = r.ready; sizes₀ = sizes; sizes = sizes; within = omega arith; whole = λ d. rw (sub-zero, zero-add, e) }
+    record { cells = r.cells; ready = r.ready; within = omega arith; whole = λ d. rw (sub-zero, zero-add, e) }
 
 one_less : (budget turns : ℕ) → 0 < budget - turns → budget - turns ≡ suc (budget - (turns + 1))
 one_less budget turns h = omega arith
@@ -74,8 +70,6 @@ module _ (s : Streams) (budget : ℕ) (m₀ : List ℕ → Machine) (c₀ : Curs
         record {
           cells = x;
           ready = r;
-          sizes₀ = g.sizes₀;
-          sizes = (ready_parts s (m' x) c' r).sizes;
           within = omega (arith, some);
           whole = λ d.
               rw (g.whole d, one_less budget turns some, run_on s quiet (m d) c (budget - (turns + 1)) due (word_halt d ∙ ap told_halt e), ← et d, ← eq, ek)

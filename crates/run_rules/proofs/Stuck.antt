@@ -12,7 +12,6 @@ use lib.Dec.{leb, ltb, eqb-suc-zero}
 use lib.ListN.{length}
 use borrow.Author.Tests.{lt-ltb, le-ltb, le-leb, lt-leb, leb-true, leb-false}
 use Rattle.machine.specs.Machine.{Machine}
-use Rattle.std.specs.Prelude.{Ok}
 use Rattle.machine.specs.Answers.{Told, accepted}
 use Rattle.run_order.specs.declared.cursor.Cursor.{Cursor}
 use Rattle.run_order.specs.Cursor.{Streams, used_up, onward_of}
@@ -21,7 +20,7 @@ use Rattle.run_order.specs.Ending.{halt_of, RunEnd, goes_on, stuck, budget_used}
 use Rattle.run_rules.specs.Run.{Turn, turn_of, Run, stop, before, run_from, run_of}
 use Rattle.run_rules.specs.StuckForGood.{SamePositions, StillTurn, StuckForGood}
 use Rattle.run_rules.proofs.Halting.{run_halts, run_on}
-use Rattle.run_rules.proofs.Calls.{ready_call, call_runs}
+use Rattle.run_rules.proofs.Calls.{ready_call, run_taken}
 use Rattle.run_rules.proofs.Turning.{onward_within}
 use Rattle.run_rules.proofs.Waiting.{waited, turn_waits, turn_moves}
 use Rattle.run_rules.proofs.Settled.{Settled, settled_waits, run_settles}
@@ -128,5 +127,5 @@ stuck_for_good s m c budget again e h =
     let d = (run_of s m c budget).cursor in
     let x = run_settles s m c budget e in
     let r = stays s n d _ again 0 d x (record { at0 = refl; at1 = refl; at2 = refl }) in
-    rw (← call_runs s n d again (Ok tt) (sym (ready_call s n d again x.ready h)) tt refl)
+    rw (← run_taken s n d again (ready_call s n d again x.ready h))
     (record { each = r.each; count = r.count ∙ rw zero-add; answer = r.answer ∙ rw zero-add; after = r.after; positions = r.positions })

@@ -21,16 +21,6 @@ use Rattle.run_order.specs.Cursor.{Streams, word_at, next_word, cursor, followin
 use Rattle.run_rules.specs.Run.{turned, by_word, turn_of}
 use Rattle.run_rules.specs.Ready.{Within, Ready}
 
-module _ (s : Streams) (m : Machine) (c k : Cursor) (o : Option ℕ) (eo : o ≡ next_word s c) where
-  pub turn_idle : o ≡ None → k ≡ onward_of c → turned (accepted idle) m k ≡ turn_of s m c
-  unfolding turn_of moved_of
-  turn_idle e ek = rw (ek, ← eo, e)
-
-  pub turn_offers : (w : ℕ) (x : Step) → o ≡ Some w → x ≡ offer_of m c.next w → k ≡ moved_of x.outcome c →
-      turned x.outcome x.after k ≡ turn_of s m c
-  unfolding turn_of
-  turn_offers w x e ex ek = rw (ek, ex, ← eo, e)
-
 -- the cursor after a turn is its outcome's
 pub turn_moved : (s : Streams) (m : Machine) (c : Cursor) → (turn_of s m c).cursor ≡ moved_of (turn_of s m c).outcome c
 unfolding turn_of
@@ -101,16 +91,3 @@ turn_ready s m c r = go (next_word s c) refl
           lengths = r.lengths;
           within = moved_within s c w (offer_of m c.next w).outcome e r.within;
         }
-
--- what step's offer asks of the machine and the thread
--- what an offer asks of a machine that is ready
-pub record Parts (m : Machine) (c : Cursor) : Type 0 where
-  pub sizes : SizedFacts m.settings m.kept
-  pub control : control_formed m.control ≡ true
-  pub thread : c.next < 3
-
-pub ready_parts : (s : Streams) (m : Machine) (c : Cursor) → Ready s m c → Parts m c
-ready_parts s m c r =
-    let sizes = and_left (sized m) (formed m) r.whole in
-    let ranges = and_right (sized m) (formed m) r.whole in
-    record { sizes = sized_facts m sizes; control = and_left (control_formed m.control) _ ranges; thread = r.within.thread }

@@ -1,14 +1,16 @@
 use Prim.Native.Nat.{◌-◌}
-use Rattle.machine.specs.Machine.{machine}
-use Rattle.run_order.specs.Cursor.{streams}
-use Rattle.run_order.specs.Stalls.{told_pairs}
+use Rattle.machine.specs.Lent.{machine_at, SameLoans}
+use Rattle.run_order.specs.Cursor.{streams_in}
+use Rattle.run_order.specs.Stalls.{told_stalls}
 use Rattle.run_rules.proofs.Going.{Going}
 use Rattle.run.proofs.course.take_turns.Given as goal
 
 abbrev pub invariant-loop-answer : goal.invariant-loop-answer
 invariant-loop-answer l =
-    Going (streams l.s0 l.s1 l.s2) l.budget (λ d. machine l.initial.k l.initial.settings l.initial.gprs l.initial.config d l.initial.marks l.initial.src_a l.initial.src_b) l.initial.c
-    (λ d. machine l.k l.settings l.gprs l.config d l.marks l.src_a l.src_b) l.c l.quiet l.turns (told_pairs l.pairs)
+    record {
+      same : SameLoans l.stores l.fn.stores;
+      going : Going (streams_in l.streams) l.budget (machine_at l.fn.control l.fn.stores) l.fn.cursor (machine_at l.ran.control l.stores) l.ran.cursor l.quiet l.ran.turns (told_stalls l.ran.stalls);
+    }
 
 abbrev pub decreases-loop-answer : goal.decreases-loop-answer
-decreases-loop-answer l = l.budget - l.turns
+decreases-loop-answer l = l.budget - l.ran.turns
