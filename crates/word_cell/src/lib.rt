@@ -47,7 +47,7 @@ pub fn trnsp_src_b(
     Outcome::Passed
 }
 
-// MOVB2A, with the banks at the matrix pointers, and whether Matrix owns SrcB's.
+// MOVB2A, with the banks at the matrix pointers, and whether Matrix owns SrcB's. The banks are two arguments, as `store_offer` takes them.
 pub fn mov_b2a(
     src_a: &mut [u32; SOURCE_CELLS],
     src_b: &[u32; SOURCE_CELLS],

@@ -19,6 +19,7 @@ use word_rules::views::view_rows;
 // What a ZEROACC clears: by its mode a part of a view, at a place that lies in it.
 #[derive(Clone, Copy)]
 pub(crate) struct Part {
+    // a number, as the definitions that stand take it (`first_row`, `row_count`)
     mode: u8,
     wide: bool,
     place: u16,
@@ -64,7 +65,7 @@ impl Part {
     }
 }
 
-// A row of the 16-bit view cleared.
+// A row of the 16-bit view cleared. Each view has maps of its own and so many marks: one function over both would be no plainer.
 #[tactic(auto, using(dest::proofs::Apart::storage16_lt))]
 fn clear_row16(marks: &mut [bool; DEST_ROWS], flags: Flags, row: View16Row)
     requires { row.0 < rows16 }

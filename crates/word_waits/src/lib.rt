@@ -13,6 +13,7 @@ use machine::sizes::SEMAPHORES;
 use machine::units::ThreadNumber;
 
 // Whether a unit owns the bank at a source file's pointer: OWNER is the unit, whose pointers stand from FIRST on. Internal, as all below.
+// A file is a number, since it is part of an owner's place (`owner_place`).
 #[tactic(auto, using(machine::proofs::ControlFacts::pointer_at))]
 fn owns<const FIRST: usize, const OWNER: u8>(c: Control, file: usize) -> bool
     requires { (control_formed c ≡ true) × (file < 2) × (FIRST ≤ 2) }
