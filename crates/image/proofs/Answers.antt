@@ -8,7 +8,8 @@ use lib.ListN.{length}
 use borrow.Author.Tests.{le-leb, lt-leb}
 use Rattle.bits.specs.Overwrite.{over}
 use Rattle.bits.proofs.Choices.{and_intro}
-use Rattle.machine.specs.declared.refusal.Refusal.{Refusal}
+use Rattle.std.specs.Prelude.{Ok, Err}
+use Rattle.machine.specs.declared.control.Control.{Control}
 use Rattle.machine.specs.declared.refusal.Refusal.TheVariants.{BadLength, ShortOutput, BadImage, Malformed}
 use Rattle.machine.specs.Machine.{Machine}
 use Rattle.machine.specs.Formed.{sized, formed, well_formed}
@@ -18,26 +19,23 @@ use Rattle.format.specs.Format.{accepts}
 use Rattle.image_layout.specs.Image.{image, image_size}
 use Rattle.image_layout.specs.Sound.{provided_sound}
 use Rattle.image_layout.proofs.SoundLaws.{sound_test}
-use Rattle.image.specs.declared.Saved.TheVariants.{Written, Refused as SaveRefused}
-use Rattle.image.specs.declared.LoadAnswer.{LoadAnswer}
-use Rattle.image.specs.declared.LoadAnswer.TheVariants.{Taken, Refused as LoadRefused}
-use Rattle.image.specs.Calls.{told_load, save_call, save_check, save_of, load_call, load_check, load_of}
+use Rattle.image.specs.Calls.{save_call, save_check, save_of, load_call, load_check, load_of}
 
 -- ---- save
 module _ (m : Machine) (out : List ℕ) where
-  pub save_unsized : sized m ≡ false → save_call (SaveRefused BadLength) out ≡ save_of m out
+  pub save_unsized : sized m ≡ false → save_call (Err BadLength) out ≡ save_of m out
   unfolding save_of save_check
   save_unsized s = rw s
 
-  pub save_malformed : sized m ≡ true → formed m ≡ false → save_call (SaveRefused Malformed) out ≡ save_of m out
+  pub save_malformed : sized m ≡ true → formed m ≡ false → save_call (Err Malformed) out ≡ save_of m out
   unfolding save_of save_check
   save_malformed s f = rw (s, f)
 
-  pub save_short : sized m ≡ true → formed m ≡ true → length out < image_size → save_call (SaveRefused ShortOutput) out ≡ save_of m out
+  pub save_short : sized m ≡ true → formed m ≡ true → length out < image_size → save_call (Err ShortOutput) out ≡ save_of m out
   unfolding save_of save_check
   save_short s f h = rw (s, f, lt-leb image_size (length out) h)
 
-  pub save_written : sized m ≡ true → formed m ≡ true → image_size ≤ length out → save_call Written (over out 0 (image.put m)) ≡ save_of m out
+  pub save_written : sized m ≡ true → formed m ≡ true → image_size ≤ length out → save_call (Ok tt) (over out 0 (image.put m)) ≡ save_of m out
   unfolding save_of save_check
   save_written s f h = rw (s, f, le-leb image_size (length out) h)
 
@@ -51,34 +49,25 @@ module _ (m : Machine) (out : List ℕ) where
       and_intro (sized m) (formed m) (provided_test (sized m) 4 (provided (formed m) 10 room) tt all) (provided_test (formed m) 10 room tt rest)
 
 -- ---- load
-module _ (fits : Bool) (bs : List ℕ) where
-  pub judged_unsized : fits ≡ false → told_load (LoadRefused BadLength) ≡ load_check fits bs
-  unfolding load_check
-  judged_unsized s = rw s
+module _ (bs : List ℕ) (m : Machine) where
+  pub load_unsized : sized m ≡ false → load_call (Err BadLength) m ≡ load_of bs m
+  unfolding load_of load_check
+  load_unsized s = rw s
 
-  pub judged_bad : fits ≡ true → accepts image bs ≡ false → {g : ℕ} → g ≡ image.good bs → told_load (LoadRefused (BadImage g)) ≡ load_check fits bs
-  unfolding load_check
-  judged_bad s a e = rw (s, a, e)
+  pub load_bad : sized m ≡ true → accepts image bs ≡ false → {g : ℕ} → g ≡ image.good bs → load_call (Err (BadImage g)) m ≡ load_of bs m
+  unfolding load_of load_check
+  load_bad s a e = rw (s, a, e)
 
-  pub judged_taken : fits ≡ true → accepts image bs ≡ true → told_load Taken ≡ load_check fits bs
-  unfolding load_check
-  judged_taken s a = rw (s, a)
+  pub load_taken : sized m ≡ true → accepts image bs ≡ true → {k : Machine} (c : Control) → k ≡ image.get bs → load_call (Ok c) k ≡ load_of bs m
+  unfolding load_of load_check
+  load_taken s a c g = rw (s, a, g)
 
-  -- what is known where an image is taken
-  pub taken_means : load_check fits bs ≡ accepted tt → (fits ≡ true) × (accepts image bs ≡ true)
-  unfolding load_check
-  taken_means e =
-      let sound = provided_sound image bs (accepted tt) in
-      (provided_test fits 4 sound tt e, sound_test image bs (accepted tt) tt (provided_rest fits 4 sound tt e))
-
-module _ (bs : List ℕ) (m : Machine) {a : LoadAnswer} (e : told_load a ≡ load_check (sized m) bs) where
-  pub load_refused : {r : Refusal} → a ≡ LoadRefused r → load_call a m ≡ load_of bs m
-  unfolding load_of
-  load_refused n = rw (← e, n)
-
-  pub load_taken : {k : Machine} → a ≡ Taken → k ≡ image.get bs → load_call a k ≡ load_of bs m
-  unfolding load_of
-  load_taken n g = rw (← e, n, g)
+-- what is known where an image is taken
+pub taken_means : (fits : Bool) (bs : List ℕ) → load_check fits bs ≡ accepted tt → (fits ≡ true) × (accepts image bs ≡ true)
+unfolding load_check
+taken_means fits bs e =
+    let sound = provided_sound image bs (accepted tt) in
+    (provided_test fits 4 sound tt e, sound_test image bs (accepted tt) tt (provided_rest fits 4 sound tt e))
 
 -- the answer of a load, and its machine where the image is taken
 pub load_answer : (bs : List ℕ) (m : Machine) → (load_of bs m).answer ≡ load_check (sized m) bs

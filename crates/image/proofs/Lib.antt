@@ -1,2 +1,4 @@
 pub mod Answers
+pub mod Lent
+pub mod Scanned
 pub mod Trips

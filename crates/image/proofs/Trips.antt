@@ -19,7 +19,7 @@ use Rattle.image_layout.proofs.MarkLaws.{mark_at}
 use Rattle.image_layout.proofs.ImageLaws.{image_lawful, formed_ok, ok_formed}
 use Rattle.image.specs.Calls.{save_of, load_of}
 use Rattle.image.specs.Promises.{RoundTrips, ImageFacts}
-use Rattle.image.proofs.Answers.{save_written, written_means, judged_taken, taken_means, load_taken, load_answer, load_machine}
+use Rattle.image.proofs.Answers.{save_written, written_means, taken_means, load_taken, load_answer, load_machine}
 
 -- from the start of a list
 over_start : (out bs : List ℕ) → over out 0 bs ≡ bs ++ drop (length bs) out
@@ -42,7 +42,7 @@ loads_back m old out h s room =
     let there : take image_size (save_of m out).after ≡ bs =
     ap (λ (r : Call (List ℕ)). take image_size r.after) (saved m out h room) ∙ take_at bs (drop image_size out) image_size (image_lawful.long m ok) in
     ap (λ (b : List ℕ). load_of b old) there
-    ∙ sym (load_taken bs old (judged_taken (sized old) bs s (whole_accepts image image_lawful m ok)) refl (sym (whole_get image image_lawful m ok)))
+    ∙ sym (load_taken bs old s (whole_accepts image image_lawful m ok) m.control (sym (whole_get image image_lawful m ok)))
 
 -- what is known where an image is taken: the bytes are accepted, and their machine comes back
 taken : (bs : List ℕ) (old : Machine) → (load_of bs old).answer ≡ accepted tt →

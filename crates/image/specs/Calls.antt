@@ -1,31 +1,27 @@
 -- What a call of `save` or `load` answers, in document 01's numbers, and all that is lent as it is afterwards.
-use Rattle.std.specs.Prelude.{ℕ, Bool, List, leb, length}
+use Rattle.std.specs.Prelude.{ℕ, Bool, List, leb, length, Result, Ok, Err}
 use Rattle.bits.specs.Overwrite.{over}
+use Rattle.machine.specs.declared.control.Control.{Control}
+use Rattle.machine.specs.declared.refusal.Refusal.{Refusal}
 use Rattle.machine.specs.Machine.{Machine}
 use Rattle.machine.specs.Formed.{sized, formed}
-use Rattle.machine.specs.Answers.{Told, accepted, refusal, provided, Call, call, checked}
+use Rattle.machine.specs.Answers.{Told, accepted, refusal, told, provided, Call, call, checked}
 use Rattle.image_layout.specs.Image.{image, image_size}
 use Rattle.image_layout.specs.Sound.{provided_sound}
-use Rattle.image.specs.declared.Saved.{Saved}
-use Rattle.image.specs.declared.Saved.TheVariants.{Written, Refused as SaveRefused}
-use Rattle.image.specs.declared.LoadAnswer.{LoadAnswer}
-use Rattle.image.specs.declared.LoadAnswer.TheVariants.{Taken, Refused as LoadRefused}
-
-abbrev pub told_saved : Saved → Told (Unit {0})
-told_saved Written = accepted tt
-told_saved (SaveRefused r) = refusal r
-
-abbrev pub told_load : LoadAnswer → Told (Unit {0})
-told_load Taken = accepted tt
-told_load (LoadRefused r) = refusal r
 
 -- what `save` answers, and the output
-abbrev pub save_call : Saved → List ℕ → Call (List ℕ)
-save_call a o = call (told_saved a) o
+abbrev pub save_call : Result (Unit {0}) Refusal → List ℕ → Call (List ℕ)
+save_call a o = call (told a) o
+
+-- the control part that `load` leaves: the image's, or the one handed in
+abbrev pub loaded_control : Control → Result Control Refusal → Control
+loaded_control c (Ok k) = k
+loaded_control c (Err r) = c
 
 -- what `load` answers, and the machine
-abbrev pub load_call : LoadAnswer → Machine → Call Machine
-load_call a m = call (told_load a) m
+abbrev pub load_call : Result Control Refusal → Machine → Call Machine
+load_call (Ok k) m = call (accepted tt) m
+load_call (Err r) m = call (refusal r) m
 
 -- 4, 10, 8
 unfoldable pub save_check : Machine → List ℕ → Told (Unit {0})

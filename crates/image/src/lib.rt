@@ -2,83 +2,40 @@
 #![tactic(auto)]
 
 ghost use Rattle.std.specs.Prelude.{◌≡◌};
+ghost use Rattle.machine.specs.Lent.{viewed};
 ghost use Rattle.machine.specs.Machine.{machine};
-ghost use Rattle.image.specs.Calls.{told_load, save_call, save_of, load_call, load_check, load_of};
+ghost use Rattle.image.specs.Calls.{save_call, save_of, loaded_control, load_call, load_of};
 ghost use Rattle.image.specs.Promises.{ImageFacts, RoundTrips};
 
 mod whole;
 
 use image_layout::{CONFIG_KIND, IMAGE_BYTES};
 use machine::control::Control;
+use machine::lent::MachineView;
 use machine::refusal::Refusal;
-use machine::sizes::CONFIG_WORDS;
-
-// What comes of saving.
-#[derive(Clone, Copy)]
-pub enum Saved {
-    Written,
-    Refused(Refusal),
-}
-
-// What comes of loading.
-#[derive(Clone, Copy)]
-pub enum LoadAnswer {
-    Taken,
-    Refused(Refusal),
-}
-
-// The answer, and the control part: the image's, or the one handed in.
-#[derive(Clone, Copy)]
-pub struct Loaded {
-    pub answer: LoadAnswer,
-    pub control: Control,
-}
+use machine::sizes::{CONFIG_WORDS, DEST_CELLS, DEST_ROWS, GPRS, SETTINGS, SOURCE_CELLS};
+use machine_formed::{machine_formed, machine_sized};
 
 // Writes a machine's image from the start of `out`, whose rest is left. Refusals 4, 10, 8.
-pub fn save(
-    control: Control,
-    settings: &[u16],
-    gprs: &[u32],
-    config: &[u32],
-    dest: &[u16],
-    marks: &[bool],
-    src_a: &[u32],
-    src_b: &[u32],
-    out: &mut [u8],
-) -> Saved
-    ensures { save_call result out.new ≡ save_of (machine control settings.now gprs.now config.now dest.now marks.now src_a.now src_b.now) out.old }
+#[tactic(auto, unfolding(crate::specs::Calls::save_of, crate::specs::Calls::save_check))]
+pub fn save(m: MachineView<'_>, out: &mut [u8]) -> Result<(), Refusal>
+    ensures { save_call result out.new ≡ save_of (viewed m.entry) out.old }
 {
-    if !machine_formed::machine_sized(control, settings, gprs, config, dest, marks, src_a, src_b) {
-        return Saved::Refused(Refusal::BadLength);
+    if !machine_sized(m) {
+        return Err(Refusal::BadLength);
     }
-    if !machine_formed::machine_formed(control, settings, gprs, config, dest, marks, src_a, src_b) {
-        return Saved::Refused(Refusal::Malformed);
+    if !machine_formed(m) {
+        return Err(Refusal::Malformed);
     }
     if out.len() < IMAGE_BYTES {
-        return Saved::Refused(Refusal::ShortOutput);
+        return Err(Refusal::ShortOutput);
     }
-    whole::write_machine(
-        out, control, settings, gprs, config, dest, marks, src_a, src_b,
-    );
-    Saved::Written
-}
-
-// Whether an image is taken, for parts that have their sizes or not.
-fn check_load(fits: bool, bytes: &[u8]) -> LoadAnswer
-    ensures { told_load result ≡ load_check fits bytes.now }
-{
-    if !fits {
-        return LoadAnswer::Refused(Refusal::BadLength);
-    }
-    let scanned = image_scan::scan(bytes, CONFIG_KIND, CONFIG_WORDS);
-    let good = scanned.good;
-    if !scanned.sound {
-        return LoadAnswer::Refused(Refusal::BadImage(good));
-    }
-    LoadAnswer::Taken
+    whole::write_machine(out, m);
+    Ok(())
 }
 
 // Loads an image: every field is looked at before anything is written. Refusals 4, 9; the machine may be malformed.
+#[tactic(auto, unfolding(crate::specs::Calls::load_of, crate::specs::Calls::load_check, machine::specs::Formed::stores_sized))]
 pub fn load(
     bytes: &[u8],
     control: Control,
@@ -89,24 +46,27 @@ pub fn load(
     marks: &mut [bool],
     src_a: &mut [u32],
     src_b: &mut [u32],
-) -> Loaded
-    ensures { load_call result.answer (machine result.control settings.new gprs.new config.new dest.new marks.new src_a.new src_b.new) ≡ load_of bytes.now (machine control settings.old gprs.old config.old dest.old marks.old src_a.old src_b.old) }
+) -> Result<Control, Refusal>
+    ensures { load_call result (machine (loaded_control control result) settings.new gprs.new config.new dest.new marks.new src_a.new src_b.new) ≡ load_of bytes.now (machine control settings.old gprs.old config.old dest.old marks.old src_a.old src_b.old) }
 {
-    let fits = machine_formed::machine_sized(
-        control, settings, gprs, config, dest, marks, src_a, src_b,
-    );
-    let answer = check_load(fits, bytes);
-    match answer {
-        LoadAnswer::Refused(_) => Loaded { answer, control },
-        LoadAnswer::Taken => {
-            let loaded = whole::read_machine(
-                bytes, settings, gprs, config, dest, marks, src_a, src_b,
-            );
-            Loaded {
-                answer,
-                control: loaded,
-            }
-        }
+    let settings = settings
+        .as_mut_array::<SETTINGS>()
+        .ok_or(Refusal::BadLength)?;
+    let gprs = gprs.as_mut_array::<GPRS>().ok_or(Refusal::BadLength)?;
+    let config = config
+        .as_mut_array::<CONFIG_WORDS>()
+        .ok_or(Refusal::BadLength)?;
+    let dest = dest.as_mut_array::<DEST_CELLS>().ok_or(Refusal::BadLength)?;
+    let marks = marks.as_mut_array::<DEST_ROWS>().ok_or(Refusal::BadLength)?;
+    let src_a = src_a
+        .as_mut_array::<SOURCE_CELLS>()
+        .ok_or(Refusal::BadLength)?;
+    let src_b = src_b
+        .as_mut_array::<SOURCE_CELLS>()
+        .ok_or(Refusal::BadLength)?;
+    match image_scan::scan(bytes, CONFIG_KIND, CONFIG_WORDS) {
+        Err(good) => Err(Refusal::BadImage(good)),
+        Ok(()) => Ok(whole::read_machine(bytes, settings, gprs, config, dest, marks, src_a, src_b)),
     }
 }
 

@@ -6,13 +6,9 @@ use Rattle.format.specs.Format.{many_get}
 use Rattle.image_layout.specs.Places.{settings_at}
 use Rattle.image.proofs.whole.read_machine.Goals as goal
 
-pub shape_of-settings : goal.shape_of-settings
-shape_of-settings c =
-    c.read_halves.auto.dst
-
 pub returns : goal.returns
 returns c =
-    let x = c.read_halves.ensures ∙ ap (λ (n : ℕ). many_get (le 2) 2 n (drop settings_at c.args.s.now)) c.requires.1 in
+    let x = c.read_run.ensures ∙ ap (λ (n : ℕ). many_get (le 2) 2 n (drop settings_at c.args.s.now)) c.told-settings in
     let w = c.read_word_stores.ensures in
     let d = c.read_dest.ensures in
     let k = c.read_sources.ensures in
