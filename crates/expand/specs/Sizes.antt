@@ -1,10 +1,11 @@
 -- How long an input is that holds its records, and where each starts. These definitions serve internal contracts alone.
-use Rattle.std.specs.Prelude.{ℕ, ◌+◌, ◌*◌, ◌≤◌, List, ◌≡◌, length}
+use Rattle.std.specs.Prelude.{ℕ, ◌+◌, ◌*◌, ◌≤◌, Result, Ok, Err, List, ◌≡◌, length}
 use Rattle.expander_rules.specs.Sizes.{needed_most}
 use Rattle.program_carried.specs.CarriedFormat.{record_bytes}
 use Rattle.expand.specs.declared.input.Sizes.{Sizes}
-use Rattle.expand.specs.declared.input.InputRead.{InputRead}
-use Rattle.expand.specs.declared.input.InputRead.TheVariants.{Sound, Closing, BadAt}
+use Rattle.program_records.specs.declared.head.BadRecord.{BadRecord}
+use Rattle.expand.specs.declared.input.Input.{Input}
+use Rattle.expand.specs.declared.input.Input.TheVariants.{Piece, Close}
 
 -- the most words of records 37 and 39
 abbrev pub nines_most : ℕ
@@ -36,8 +37,8 @@ pub record Fits (s : List ℕ) (z : Sizes) : Type 0 where
   pub nines : z.nine ≤ nines_most
   pub streams : z.words ≤ words_most
 
-abbrev pub Read : List ℕ → InputRead → Type 0
-Read s (Sound z) = Fits s z
+abbrev pub Read : List ℕ → Result Input BadRecord → Type 0
+Read s (Ok (Piece z)) = Fits s z
 -- records 37, 38, and 41 without a body
-Read s (Closing n) = (n ≤ nines_most) × (words_at + 4 * n ≤ length s)
-Read s (BadAt at) = Unit {0}
+Read s (Ok (Close n)) = (n ≤ nines_most) × (words_at + 4 * n ≤ length s)
+Read s (Err e) = Unit {0}

@@ -4,8 +4,8 @@ ghost use Rattle.std.specs.Prelude.{◌+◌, ◌*◌, ◌≤◌, length};
 ghost use Rattle.expand.specs.Sizes.{nines_most, words_most, words_at, Read};
 
 use program_carried::{CARRIED_KIND, CARRIED_LENGTH, RECORD_BYTES, is_sound};
-use program_records::counts::{WordsRecord, words_record};
-use program_records::head::has_body;
+use program_records::counts::words_record;
+use program_records::head::{BadRecord, has_body};
 
 // The most words of records 37 and 39: one more than the longest stream, so that a call refuses it.
 pub(crate) const NINES_MOST: usize = 16;
@@ -37,80 +37,63 @@ pub(crate) struct Sizes {
     pub(crate) words: usize,
 }
 
+// What a sound input asks for.
 #[derive(Clone, Copy)]
-pub(crate) enum InputRead {
+pub(crate) enum Input {
     // a piece
-    Sound(Sizes),
+    Piece(Sizes),
     // a close; how many words record 37 has
-    Closing(usize),
-    BadAt(usize),
+    Close(usize),
 }
 
-fn from_room(s: &[u8], nine: usize, words: usize) -> InputRead
+fn from_room(s: &[u8], nine: usize, words: usize) -> Result<Input, BadRecord>
     requires { (nine ≤ nines_most) × (words ≤ words_most) }
     ensures { Read s.now result }
 {
     let at = ROOM_AT + 4 * nine + 4 * words;
-    let there = has_body(s, at, 40, 4);
-    if !there {
-        return InputRead::BadAt(at);
+    if !has_body(s, at, 40, 4) {
+        return Err(BadRecord { at });
     }
     if s.len() != at + 10 {
-        return InputRead::BadAt(at + 10);
+        return Err(BadRecord { at: at + 10 });
     }
-    InputRead::Sound(Sizes { nine, words })
+    Ok(Input::Piece(Sizes { nine, words }))
 }
 
-fn from_words(s: &[u8], nine: usize) -> InputRead
-    requires { nine ≤ nines_most }
-    ensures { Read s.now result }
-{
-    let at = WORDS_AT + 4 * nine;
-    let w = words_record(s, at, 39, WORDS_BYTES);
-    match w {
-        WordsRecord::NoWords => InputRead::BadAt(at),
-        WordsRecord::Words(words) => from_room(s, nine, words),
-    }
-}
-
-fn from_close(s: &[u8], nine: usize) -> InputRead
+fn from_close(s: &[u8], nine: usize) -> Result<Input, BadRecord>
     requires { (nine ≤ nines_most) × (words_at + 4 * nine ≤ length s.now) }
     ensures { Read s.now result }
 {
     let at = WORDS_AT + 4 * nine;
-    let closes = has_body(s, at, 41, 0);
-    if !closes {
-        return from_words(s, nine);
+    if has_body(s, at, 41, 0) {
+        if s.len() != at + 6 {
+            return Err(BadRecord { at: at + 6 });
+        }
+        return Ok(Input::Close(nine));
     }
-    if s.len() != at + 6 {
-        return InputRead::BadAt(at + 6);
-    }
-    InputRead::Closing(nine)
+    let Some(words) = words_record(s, at, 39, WORDS_BYTES) else {
+        return Err(BadRecord { at });
+    };
+    from_room(s, nine, words)
 }
 
-fn from_carried(s: &[u8], nine: usize) -> InputRead
+fn from_carried(s: &[u8], nine: usize) -> Result<Input, BadRecord>
     requires { nine ≤ nines_most }
     ensures { Read s.now result }
 {
     let at = CARRIED_AT + 4 * nine;
-    let there = has_body(s, at, CARRIED_KIND, CARRIED_LENGTH);
-    if !there {
-        return InputRead::BadAt(at);
-    }
-    let sound = is_sound(s, at + 6);
-    if !sound {
-        return InputRead::BadAt(at);
+    if !has_body(s, at, CARRIED_KIND, CARRIED_LENGTH) || !is_sound(s, at + 6) {
+        return Err(BadRecord { at });
     }
     from_close(s, nine)
 }
 
 // Internal: the whole input.
-pub(crate) fn read_input(s: &[u8]) -> InputRead
+pub(crate) fn read_input(s: &[u8]) -> Result<Input, BadRecord>
     ensures { Read s.now result }
 {
-    let w = words_record(s, 0, 37, NINES_BYTES);
-    match w {
-        WordsRecord::NoWords => InputRead::BadAt(0),
-        WordsRecord::Words(nine) => from_carried(s, nine),
-    }
+    let Some(nine) = words_record(s, 0, 37, NINES_BYTES) else {
+        return Err(BadRecord { at: 0 });
+    };
+    from_carried(s, nine)
 }

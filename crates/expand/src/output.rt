@@ -4,8 +4,8 @@ ghost use Rattle.expander_rules.specs.Sizes.{needed_most};
 ghost use Rattle.expand.specs.Sizes.{words_record};
 
 use expander_rules::Carried;
-use format::run::{write_head, write_words};
-use machine::refusal::{Refusal, refusal_number};
+use format::run::{write_head, write_run};
+use machine::refusal::Refusal;
 use program_carried::carried_record;
 use std::io;
 
@@ -26,7 +26,7 @@ fn print_carried(rt: &HostRuntime, carried: Carried) -> io::Result<()> {
 }
 
 pub(crate) fn print_refused(rt: &HostRuntime, why: Refusal, carried: Carried) -> io::Result<()> {
-    print_line(rt, b"refused ", refusal_number(why) as usize)?;
+    print_line(rt, b"refused ", u32::from(why) as usize)?;
     print_carried(rt, carried)
 }
 
@@ -41,7 +41,7 @@ fn print_words(rt: &HostRuntime, words: &[u32], bytes: &mut [u8]) -> io::Result<
 {
     let n = words.len();
     write_head(bytes, 0, (4 * n) as u32, 39);
-    write_words(bytes, 6, 4, words);
+    write_run::<u32, 4>(bytes, 6, words);
     rt.write_all(&bytes[..6 + 4 * n])
 }
 

@@ -1,5 +1,6 @@
 // A case: twelve words of 4 bytes, the lowest byte first.
 use crate::draws::{Mix, Replays};
+use bits::word::{field, flag};
 use expander_rules::Load;
 use format::number::read;
 
@@ -17,61 +18,58 @@ pub(crate) struct Case {
     pub(crate) m1: u32,
     pub(crate) stream_words: usize,
     pub(crate) room: usize,
-    pub(crate) load: Load,
+    pub(crate) load: Option<Load>,
     pub(crate) pieces: u32,
 }
 
 // The load: its kind in bit 0 and whether it is shown in bit 1; the next slot; the words to come.
-fn read_load(record: &[u8; BYTES]) -> Load {
-    let kind = read(record, 32, 4);
-    if kind % 2 == 0 {
-        return Load::NoLoad;
+fn read_load(record: &[u8; BYTES]) -> Option<Load> {
+    let kind = read::<4>(record, 32);
+    if !flag::<0>(kind) {
+        return None;
     }
-    let next = read(record, 36, 4);
-    let left = read(record, 40, 4);
-    Load::Taking {
-        next,
-        left,
-        shown: kind / 2 % 2 == 1,
-    }
+    Some(Load {
+        next: read::<4>(record, 36),
+        left: read::<4>(record, 40),
+        shown: flag::<1>(kind),
+    })
 }
 
 // Seed; high mask and the number of nine words; the mix, a byte each; m0; m1; stream words; room; the shares of REPLAYs in the stream,
 // the nine words and the slots, and whether their lengths may be odd; the load; the pieces (see pieces.rt).
 pub(crate) fn read_case(record: &[u8; BYTES]) -> Case {
-    let lent = read(record, 4, 4);
-    let mix = read(record, 8, 4);
-    let replays = read(record, 28, 4);
-    let odd = 0 < replays / 16777216;
-    let load = read_load(record);
+    let lent = read::<4>(record, 4);
+    let mix = read::<4>(record, 8);
+    let replays = read::<4>(record, 28);
+    let odd = 0 < field::<24, 8>(replays);
     Case {
-        seed: read(record, 0, 4),
+        seed: read::<4>(record, 0),
         high: (lent % 65536) as u16,
         nine_words: (lent / 65536) as usize,
         mix: Mix {
-            mops0: mix % 256,
-            mops1: mix / 256 % 256,
-            configs: mix / 65536 % 256,
-            counts: mix / 16777216,
+            mops0: field::<0, 8>(mix),
+            mops1: field::<8, 8>(mix),
+            configs: field::<16, 8>(mix),
+            counts: field::<24, 8>(mix),
             replays: Replays {
-                below: replays % 256,
+                below: field::<0, 8>(replays),
                 odd,
             },
         },
         in_nine: Replays {
-            below: replays / 256 % 256,
+            below: field::<8, 8>(replays),
             odd,
         },
         in_slots: Replays {
-            below: replays / 65536 % 256,
+            below: field::<16, 8>(replays),
             odd,
         },
-        m0: read(record, 12, 4),
-        m1: read(record, 16, 4),
-        stream_words: read(record, 20, 4) as usize,
-        room: read(record, 24, 4) as usize,
-        load,
-        pieces: read(record, 44, 4),
+        m0: read::<4>(record, 12),
+        m1: read::<4>(record, 16),
+        stream_words: read::<4>(record, 20) as usize,
+        room: read::<4>(record, 24) as usize,
+        load: read_load(record),
+        pieces: read::<4>(record, 44),
     }
 }
 

@@ -1,16 +1,15 @@
 // Numbers from a seed, as oracle/cases/cases_expander.py draws them.
-ghost use Rattle.std.specs.Prelude.{◌≡◌, min, ◌≤◌};
+ghost use Rattle.std.specs.Prelude.{◌≤◌};
 
+use bits::word::field;
 use test_machines::draws::{draw, next_state, state_after, word};
 
 // Fills the words with the generator's states after `state`, and answers the last.
 pub(crate) fn fill(words: &mut [u32], state: u32) -> u32 {
     let mut x = state;
-    let mut i: usize = 0;
-    while i < words.len() {
+    for word in words {
         x = next_state(x);
-        words[i] = x;
-        i += 1;
+        *word = x;
     }
     x
 }
@@ -42,7 +41,7 @@ fn late_length(pick: u32, odd: bool, any: u32) -> u32
             12 => 0,
             13 => 33,
             14 => 63,
-            _ => any / 16 % 64,
+            _ => field::<4, 6>(any),
         };
     }
     match pick {
@@ -76,22 +75,22 @@ fn replay_length(pick: u32, odd: bool, any: u32) -> u32
 fn replay_start(any: u32) -> u32
     ensures { result ≤ 31 }
 {
-    if any / 0x1000_0000 % 4 == 0 {
+    if field::<28, 2>(any) == 0 {
         return 31;
     }
-    any / 16384 % 32
+    field::<14, 5>(any)
 }
 
 // The REPLAY word that a drawn word makes: its high half also chooses length and start.
 fn replay_word(any: u32, odd: bool) -> u32 {
-    let length = replay_length(any / 0x100_0000 % 16, odd, any);
+    let length = replay_length(field::<24, 4>(any), odd, any);
     let start = replay_start(any);
     0x0400_0000
         + any % 16
         + length * 16
-        + any / 1024 % 16 * 1024
+        + field::<10, 4>(any) * 1024
         + start * 16384
-        + any / 524288 % 32 * 524288
+        + field::<19, 5>(any) * 524288
 }
 
 // A word, or the REPLAY word in its place.
@@ -107,20 +106,11 @@ fn replaced(old: u32, replays: Replays, x: u32) -> u32 {
 // Puts REPLAY words in the place of some, and answers the last state.
 pub(crate) fn put_replays(words: &mut [u32], replays: Replays, state: u32) -> u32 {
     let mut x = state;
-    let mut i: usize = 0;
-    while i < words.len() {
-        let old = words[i];
-        words[i] = replaced(old, replays, x);
+    for word in words {
+        *word = replaced(*word, replays, x);
         x = state_after(x, 3);
-        i += 1;
     }
     x
-}
-
-fn least(a: u32, b: u32) -> u32
-    ensures { result ≡ min a b }
-{
-    if a < b { a } else { b }
 }
 
 // The word that three draws make: its kind, and its high and low half.
@@ -128,7 +118,7 @@ fn make_word(mix: Mix, x: u32) -> u32 {
     let kind = draw(x) as u32 % 16;
     let any = word(next_state(x), u32::MAX);
     if kind < mix.mops0 {
-        let count = least(any / 65536 % 128, mix.counts % 128);
+        let count = field::<16, 7>(any).min(mix.counts % 128);
         return 0x0100_0000 + count * 65536 + any % 65536;
     }
     if kind < mix.mops1 {
@@ -137,9 +127,8 @@ fn make_word(mix: Mix, x: u32) -> u32 {
     if kind < mix.configs {
         return 0x0300_0000 + any % 0x100_0000;
     }
-    let replays = mix.replays;
-    if kind < replays.below {
-        return replay_word(any, replays.odd);
+    if kind < mix.replays.below {
+        return replay_word(any, mix.replays.odd);
     }
     any
 }
@@ -147,11 +136,9 @@ fn make_word(mix: Mix, x: u32) -> u32 {
 // Fills the words with such words, and answers the last state.
 pub(crate) fn make_stream(words: &mut [u32], mix: Mix, state: u32) -> u32 {
     let mut x = state;
-    let mut i: usize = 0;
-    while i < words.len() {
-        words[i] = make_word(mix, x);
+    for word in words {
+        *word = make_word(mix, x);
         x = state_after(x, 3);
-        i += 1;
     }
     x
 }

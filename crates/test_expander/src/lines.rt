@@ -1,6 +1,6 @@
 // What is printed of an answer and of what is carried, and its checksum.
-use expander_rules::{Answer, Carried, Expanded, Load};
-use machine::refusal::refusal_number;
+use expander_rules::{Carried, Expanded, Load};
+use machine::refusal::Refusal;
 use std::io;
 use test_machines::sums;
 use test_machines::sums::Sums;
@@ -10,109 +10,67 @@ pub(crate) fn print_number(rt: &HostRuntime, n: u64) -> io::Result<()> {
     rt.print(n)
 }
 
-fn bit(set: bool) -> u32 {
-    if set { 1 } else { 0 }
-}
-
 // A load's kind (0 for none), the next slot, the words to come, and whether they are shown.
-#[derive(Clone, Copy)]
-struct Numbers {
-    kind: u32,
-    next: u32,
-    left: u32,
-    shown: u32,
-}
-
-fn numbers_of(load: Load) -> Numbers {
+fn numbers_of(load: Option<Load>) -> [u32; 4] {
     match load {
-        Load::NoLoad => Numbers {
-            kind: 0,
-            next: 0,
-            left: 0,
-            shown: 0,
-        },
-        Load::Taking { next, left, shown } => Numbers {
-            kind: 1,
-            next,
-            left,
-            shown: bit(shown),
-        },
+        None => [0; 4],
+        Some(load) => [1, load.next, load.left, load.shown as u32],
     }
 }
 
 // The high mask, the slots' checksum, and the load.
 pub(crate) fn print_carried(rt: &HostRuntime, carried: Carried) -> io::Result<()> {
-    let slots = carried.slots;
-    let load = carried.load;
-    let sum = sums::add_words(sums::start(), &slots);
-    let numbers = numbers_of(load);
+    let sum = sums::add_words(sums::start(), &carried.slots);
     print_number(rt, carried.high_mask as u64)?;
     print_number(rt, sums::checksum(sum) as u64)?;
-    print_number(rt, numbers.kind as u64)?;
-    print_number(rt, numbers.next as u64)?;
-    print_number(rt, numbers.left as u64)?;
-    print_number(rt, numbers.shown as u64)
+    for n in numbers_of(carried.load) {
+        print_number(rt, n as u64)?;
+    }
+    Ok(())
 }
 
 // What is carried, added to a checksum.
 fn add_carried(sum: Sums, carried: Carried) -> Sums {
-    let slots = carried.slots;
-    let load = carried.load;
-    let numbers = numbers_of(load);
-    let a = sums::add_word(sum, carried.high_mask as u32);
-    let b = sums::add_words(a, &slots);
-    let c = sums::add_word(b, numbers.kind);
-    let d = sums::add_word(c, numbers.next);
-    let e = sums::add_word(d, numbers.left);
-    sums::add_word(e, numbers.shown)
+    let mask = sums::add_word(sum, carried.high_mask as u32);
+    let slots = sums::add_words(mask, &carried.slots);
+    sums::add_words(slots, &numbers_of(carried.load))
 }
 
 // The same of a call's answer, and of what it carries on.
-pub(crate) fn add_call(sum: Sums, answer: Answer, carried: Carried) -> Sums {
-    let answered = match answer {
-        Answer::Done(n) => sums::add_word(sums::add_word(sum, 0), (n % 4294967296) as u32),
-        Answer::Refused(r) => sums::add_word(sums::add_word(sum, 1), refusal_number(r)),
+pub(crate) fn add_call(sum: Sums, r: Expanded) -> Sums {
+    let answered = match r.answer {
+        Ok(n) => sums::add_words(sum, &[0, (n % 4294967296) as u32]),
+        Err(why) => sums::add_words(sum, &[1, u32::from(why)]),
     };
-    add_carried(answered, carried)
+    add_carried(answered, r.carried)
 }
 
-// A line's answer; `done` is the word for an accepted call.
-fn print_answer(rt: &HostRuntime, answer: Answer, done: &[u8]) -> io::Result<()> {
-    match answer {
-        Answer::Done(n) => {
-            rt.write_all(done)?;
-            print_number(rt, n as u64)
-        }
-        Answer::Refused(r) => {
-            rt.write_all(b"refused")?;
-            print_number(rt, refusal_number(r) as u64)
-        }
-    }
+fn print_refusal(rt: &HostRuntime, why: Refusal) -> io::Result<()> {
+    rt.write_all(b"refused")?;
+    print_number(rt, u32::from(why) as u64)
 }
 
 pub(crate) fn print_call(rt: &HostRuntime, r: Expanded) -> io::Result<()> {
-    let answer = r.answer;
-    print_answer(rt, answer, b"done")?;
-    let carried = r.carried;
-    print_carried(rt, carried)
+    match r.answer {
+        Ok(n) => {
+            rt.write_all(b"done")?;
+            print_number(rt, n as u64)?;
+        }
+        Err(why) => print_refusal(rt, why)?,
+    }
+    print_carried(rt, r.carried)
 }
 
 // The output's checksum, what a close gives, and the line's end.
 pub(crate) fn print_end(rt: &HostRuntime, carried: Carried, out: &[u32]) -> io::Result<()> {
     let sum = sums::add_words(sums::start(), out);
     print_number(rt, sums::checksum(sum) as u64)?;
+    rt.write_all(b" ")?;
     let r = expander::close(carried);
-    let answer = r.answer;
-    match answer {
-        Answer::Done(n) => {
-            rt.write_all(b" closed")?;
-        }
-        Answer::Refused(why) => {
-            rt.write_all(b" refused")?;
-            print_number(rt, refusal_number(why) as u64)?;
-        }
+    match r.answer {
+        Ok(_) => rt.write_all(b"closed")?,
+        Err(why) => print_refusal(rt, why)?,
     }
-    let after = r.carried;
-    print_carried(rt, after)?;
+    print_carried(rt, r.carried)?;
     rt.write_all(b"\n")
 }

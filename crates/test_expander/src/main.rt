@@ -50,19 +50,16 @@ fn run_call(
 ) -> io::Result<()> {
     let r = expander::expand(nine, carried, stream, out);
     lines::print_call(rt, r)?;
-    let after = r.carried;
-    lines::print_end(rt, after, out)
+    lines::print_end(rt, r.carried, out)
 }
 
 fn print_pieces(rt: &HostRuntime, fed: Fed, out: &[u32]) -> io::Result<()> {
     rt.write_all(b"pieces")?;
     lines::print_number(rt, fed.taken as u64)?;
     lines::print_number(rt, fed.at as u64)?;
-    let sum = fed.sum;
-    lines::print_number(rt, sums::checksum(sum) as u64)?;
-    let after = fed.carried;
-    lines::print_carried(rt, after)?;
-    lines::print_end(rt, after, out)
+    lines::print_number(rt, sums::checksum(fed.sum) as u64)?;
+    lines::print_carried(rt, fed.carried)?;
+    lines::print_end(rt, fed.carried, out)
 }
 
 // Below 65,536 `cuts` asks for a cut at each place; else it is the seed of the pieces' lengths, and its low half their span.
@@ -96,11 +93,10 @@ fn run_case(
     let slots = made.slots;
     let b = draws::make_stream(stream, case.mix, made.state);
     draws::fill(out, b);
-    let load = case.load;
     let carried = Carried {
         high_mask: case.high,
         slots,
-        load,
+        load: case.load,
     };
     if case.pieces == 0 {
         run_call(rt, nine, carried, stream, out)
@@ -117,29 +113,19 @@ fn one_case(
     out: &mut [u32],
 ) -> io::Result<bool> {
     let mut record = [0u8; case::BYTES];
-    let got = read_full(&mut rt.stdin(), &mut record)?;
-    if got < case::BYTES {
+    if read_full(&mut rt.stdin(), &mut record)? < case::BYTES {
         return Ok(false);
     }
     let case = case::read_case(&record);
-    let nine_words = case.nine_words;
-    let stream_words = case.stream_words;
-    let room = case.room;
-    if nine.len() < nine_words {
-        return Ok(false);
-    }
-    if stream.len() < stream_words {
-        return Ok(false);
-    }
-    if out.len() < room {
+    if nine.len() < case.nine_words || stream.len() < case.stream_words || out.len() < case.room {
         return Ok(false);
     }
     run_case(
         rt,
         case,
-        &mut nine[..nine_words],
-        &mut stream[..stream_words],
-        &mut out[..room],
+        &mut nine[..case.nine_words],
+        &mut stream[..case.stream_words],
+        &mut out[..case.room],
     )?;
     Ok(true)
 }
@@ -151,9 +137,10 @@ fn all_cases(
     stream: &mut [u32],
     out: &mut [u32],
 ) -> io::Result<()> {
-    let mut turns = u32::MAX;
-    while turns > 0 && one_case(rt, nine, stream, out)? {
-        turns -= 1;
+    for _ in 0..u32::MAX {
+        if !one_case(rt, nine, stream, out)? {
+            break;
+        }
     }
     Ok(())
 }

@@ -2,8 +2,7 @@
 ghost use Rattle.std.specs.Prelude.{◌≤◌, ◌≡◌, length};
 
 use crate::lines::add_call;
-use expander_rules::{Answer, Carried};
-use expander_templates::count::lesser;
+use expander_rules::Carried;
 use test_machines::draws::{draw, next_state};
 use test_machines::sums;
 use test_machines::sums::Sums;
@@ -20,12 +19,11 @@ pub(crate) struct Fed {
 pub(crate) fn not_fed(carried: Carried) -> Fed
     ensures { result.at ≡ 0 }
 {
-    let sum = sums::start();
     Fed {
         carried,
         at: 0,
         taken: 0,
-        sum,
+        sum: sums::start(),
     }
 }
 
@@ -34,23 +32,19 @@ fn feed(nine: &[u32], fed: Fed, piece: &[u32], out: &mut [u32]) -> Fed
     requires { fed.at ≤ length out.old }
     ensures { (result.at ≤ length out.new) × (length out.new ≡ length out.old) }
 {
-    let at = fed.at;
-    let carried = fed.carried;
-    let before = fed.sum;
-    let r = expander::expand(nine, carried, piece, &mut out[at..]);
-    let answer = r.answer;
-    let after = r.carried;
-    let sum = add_call(before, answer, after);
-    match answer {
-        Answer::Refused(why) => Fed {
-            carried: after,
-            at,
+    let r = expander::expand(nine, fed.carried, piece, &mut out[fed.at..]);
+    let carried = r.carried;
+    let sum = add_call(fed.sum, r);
+    match r.answer {
+        Err(_) => Fed {
+            carried,
+            at: fed.at,
             taken: fed.taken,
             sum,
         },
-        Answer::Done(n) => Fed {
-            carried: after,
-            at: at + n,
+        Ok(n) => Fed {
+            carried,
+            at: fed.at + n,
             taken: fed.taken % 0xFFFF_FFFF + 1,
             sum,
         },
@@ -69,12 +63,11 @@ fn feed_cut(
     requires { place ≤ length stream.now }
     ensures { (result.at ≤ length out.new) × (length out.new ≡ length out.old) }
 {
-    let sum = fed.sum;
     let start = Fed {
         carried,
         at: 0,
         taken: fed.taken,
-        sum,
+        sum: fed.sum,
     };
     let first = feed(nine, start, &stream[..place], out);
     feed(nine, first, &stream[place..], out)
@@ -83,12 +76,10 @@ fn feed_cut(
 // Cut in two at each place, from the same state each time.
 pub(crate) fn feed_places(nine: &[u32], carried: Carried, stream: &[u32], out: &mut [u32]) -> Fed {
     let mut fed = not_fed(carried);
-    let mut place: usize = 0;
-    while place < stream.len() {
+    for place in 0..stream.len() {
         fed = feed_cut(nine, carried, fed, stream, place, out);
-        place += 1;
     }
-    feed_cut(nine, carried, fed, stream, place, out)
+    feed_cut(nine, carried, fed, stream, stream.len(), out)
 }
 
 // A piece's length, drawn from a state: at most the low half of the seed.
@@ -107,14 +98,15 @@ pub(crate) fn feed_drawn(
     let mut fed = not_fed(carried);
     let mut state = seed;
     let mut i: usize = 0;
-    let mut turns = u32::MAX;
-    while turns > 0 && i < stream.len() {
+    for _ in 0..u32::MAX {
+        if stream.len() <= i {
+            break;
+        }
         let n = drawn_length(state, seed) as usize;
-        let end = i + lesser(n, stream.len() - i);
+        let end = i + n.min(stream.len() - i);
         fed = feed(nine, fed, &stream[i..end], out);
         state = next_state(state);
         i = end;
-        turns -= 1;
     }
     fed
 }

@@ -9,9 +9,9 @@ use Rattle.test_expander.proofs.pieces.feed.Goals as goal
 pub overflow_add-result : goal.overflow_add-result
 overflow_add-result c =
     let fits : (c.args.fed.at + answered c.expand-r.result.answer ≤ length c.args.out.now) = omega (arith, answer_fits _ _ _ _ c.expand-r.result.answer _ _ c.expand-r.ensures, length-drop c.args.fed.at c.args.out.now, c.requires) in
-    omega (arith, rw c.in-Done.is at fits)
+    omega (arith, rw c.in-Ok.is at fits)
 
-pub returns-in-Done : goal.returns-in-Done
-returns-in-Done c =
+pub returns-in-Ok : goal.returns-in-Ok
+returns-in-Ok c =
     let fits : (c.args.fed.at + answered c.expand-r.result.answer ≤ length c.args.out.now) = omega (arith, answer_fits _ _ _ _ c.expand-r.result.answer _ _ c.expand-r.ensures, length-drop c.args.fed.at c.args.out.now, c.requires) in
-    (omega (arith, rw c.in-Done.is at fits), search rules)
+    (omega (arith, rw c.in-Ok.is at fits), search rules)

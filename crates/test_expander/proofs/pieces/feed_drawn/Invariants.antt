@@ -3,8 +3,5 @@ use Prim.Native.Nat.{◌≤◌}
 use mathlib.Core.Path.{◌≡◌}
 use Rattle.test_expander.proofs.pieces.feed_drawn.Given as goal
 
-abbrev pub invariant-loop-turns : goal.invariant-loop-turns
-invariant-loop-turns l = (l.i ≤ length l.stream) × (l.fed.at ≤ length l.out) × (length l.out ≡ length l.initial.out)
-
-abbrev pub decreases-loop-turns : goal.decreases-loop-turns
-decreases-loop-turns l = l.turns
+abbrev pub invariant-loop : goal.invariant-loop
+invariant-loop l = (l.i ≤ length l.stream) × (l.fed.at ≤ length l.out) × (length l.out ≡ length l.initial.out)

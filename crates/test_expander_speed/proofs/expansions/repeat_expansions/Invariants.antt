@@ -1,9 +1,0 @@
-use lib.ListN.{length}
-use mathlib.Core.Path.{◌≡◌}
-use Rattle.test_expander_speed.proofs.expansions.repeat_expansions.Given as goal
-
-abbrev pub invariant-loop-left : goal.invariant-loop-left
-invariant-loop-left l = length l.out ≡ length l.initial.out
-
-abbrev pub decreases-loop-left : goal.decreases-loop-left
-decreases-loop-left l = l.left
