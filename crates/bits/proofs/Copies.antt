@@ -1,19 +1,29 @@
 -- Laws of words copied from one list into another.
 use Prim.Native.Nat.{ℕ, zero, suc, ◌+◌, ◌-◌, ◌≤◌, ◌<◌}
-use mathlib.Core.Path.{◌≡◌, refl, sym, ◌∙◌}
+use mathlib.Core.Path.{◌≡◌, refl, ◌∙◌}
 use mathlib.Core.Bool.{true}
-use mathlib.Core.List.{List, [], ◌∷◌}
+use mathlib.Core.List.{List}
 use native.Mathlib.Nat.{add-zero}
 use native.Mathlib.Omega.{arith}
-use native.Mathlib.Numerals.{add-one}
-use lib.ListN.{length, take, drop, set, get_or, length-set, length-take, length-drop}
-use lib.Seq.{get_or-set_same, get_or-set_other, drop-cons}
-use borrow.Rule.Slice.PartMut.{put_mid}
-use Rattle.bits.specs.Overwrite.{over}
-use Rattle.bits.proofs.Overwrite.{over_none, over_set, over_over, put_mid-over}
+use lib.ListN.{length, set, get_or, length-set}
+use lib.Seq.{get_or-set_same, get_or-set_other}
 use Rattle.bits.specs.Ranges.{all_at_most}
 use Rattle.bits.proofs.Ranges.{at_most_at, at_most_set}
 use Rattle.bits.specs.Copies.{copied}
+
+-- one turn of a loop that copies, and its end
+pub copied_step : (n from to i : ℕ) (s l : List ℕ) → i < n →
+    copied (n - i) (from + i) (to + i) s l ≡ copied (n - (i + 1)) (from + (i + 1)) (to + (i + 1)) s (set l (to + i) (get_or s (from + i) 0))
+unfolding copied
+copied_step n from to i s l h =
+    let e : n - i ≡ suc (n - (i + 1)) = omega arith in
+    let f : from + i + 1 ≡ from + (i + 1) = omega arith in
+    let g : to + i + 1 ≡ to + (i + 1) = omega arith in
+    rw (e, ← f, ← g)
+
+pub copied_none : (n from to : ℕ) (s l : List ℕ) → n ≡ 0 → copied n from to s l ≡ l
+unfolding copied
+copied_none n from to s l h = rw h
 
 pub copied_long : (n from to : ℕ) (s l : List ℕ) → length (copied n from to s l) ≡ length l
 unfolding copied
@@ -54,20 +64,3 @@ unfolding copied
 copied_at_most most zero from to s l p q = q
 copied_at_most most (suc n) from to s l p q =
     copied_at_most most n (from + 1) (to + 1) s (set l to (get_or s from 0)) p (at_most_set most l to (get_or s from 0) q (at_most_at most s from p))
-
--- a copy is a part of s written over a part of l
-pub copied-over : (n from to : ℕ) (s l : List ℕ) → from + n ≤ length s → to + n ≤ length l → copied n from to s l ≡ over l to (take n (drop from s))
-unfolding copied
-copied-over zero from to s l p q = sym (over_none l to)
-copied-over (suc n) from to s l p q =
-    let x = get_or s from 0 in
-    let e : take (suc n) (drop from s) ≡ x ∷ take n (drop (suc from) s) = let h : from < length s = omega arith in rw (drop-cons s from 0) in
-    rw (e, copied-over n (from + 1) (to + 1) s (set l to x) (omega arith) (rw length-set (omega arith)), over_set l to x (omega arith), add-one from)
-    (over_over l to (x ∷ []) (take n (drop (suc from) s)) (omega arith))
-
--- the same of the list that a write to a part leaves
-pub copied-put_mid : (n from to : ℕ) (s l ys : List ℕ) → ys ≡ take (from + n - from) (drop from s) → from + n ≤ length s → to + n ≤ length l → put_mid to (to + n - to) l ys ≡ copied n from to s l
-copied-put_mid n from to s l ys e p q =
-    let m : from + n - from ≡ n = omega arith in
-    let f = rw m at e in
-    put_mid-over _ _ _ _ _ f (simp (length-take, length-drop) (omega arith)) ∙ sym (copied-over n from to s l p q)
