@@ -11,7 +11,8 @@ use borrow.Author.Tests.{le-leb}
 use Rattle.bits.proofs.Choices.{and_left, and_right}
 use Rattle.machine.specs.Formed.{sized, formed, well_formed}
 use Rattle.machine.specs.Machine.{Machine}
-use Rattle.machine.specs.declared.access.Access.TheVariants.{Granted}
+use Rattle.machine.specs.declared.refusal.Refusal.{Refusal}
+use Rattle.std.specs.Prelude.{Result, Ok}
 use Rattle.machine.specs.Answers.{accepted, refused, told}
 use Rattle.word_rules.specs.declared.instruction.ConfigWord.{ConfigWord}
 use Rattle.word_rules.specs.declared.instruction.ScalarWord.{ScalarWord}
@@ -24,7 +25,10 @@ use Rattle.step_rules.specs.Step.{stepped, pass_of, by_gate, gated_of, check_of,
 use Rattle.step_rules.proofs.Ways.{offered_as, call_offered}
 use Rattle.acceptance.specs.Worked.{Unstalled}
 
-fine : (m : Machine) (t : ℕ) → well_formed m ≡ true → t < 3 → told Granted ≡ check_of m t
+abbrev granted : Result (Unit {0}) Refusal
+granted = Ok tt
+
+fine : (m : Machine) (t : ℕ) → well_formed m ≡ true → t < 3 → told granted ≡ check_of m t
 unfolding check_of
 fine m t e h = rw (and_left (sized m) (formed m) e, and_right (sized m) (formed m) e, le-leb t 2 (omega arith))
 
@@ -36,13 +40,13 @@ passing : (m : Machine) (t w : ℕ) (i : Instruction) → well_formed m ≡ true
     gate_of m.control t i ≡ Open → step_of m t w ≡ pass_of m t i
 passing m t w i e h d g =
     let offered = gate_open m t i g ∙ offered_as m t w (accepted i) d in
-    sym (call_offered m t Granted (fine m t e h) w (pass_of m t i) refl offered)
+    sym (call_offered m t granted (fine m t e h) w (pass_of m t i) tt refl offered)
 
 pub refusing : (m : Machine) (t w n : ℕ) (vs : List ℕ) → well_formed m ≡ true → t < 3 → decode_of w ≡ refused n vs →
     step_of m t w ≡ stepped (refused n vs) m
 refusing m t w n vs e h d =
     let offered = offered_as m t w (refused n vs) d in
-    sym (call_offered m t Granted (fine m t e h) w (stepped (refused n vs) m) refl offered)
+    sym (call_offered m t granted (fine m t e h) w (stepped (refused n vs) m) tt refl offered)
 
 -- a wait that doesn't stall these words leaves a gate open
 open_now : (c : Control) (t b : ℕ) → (flag b (wait_block (wait_of c t)) && holds_now c (wait_of c t)) ≡ false →

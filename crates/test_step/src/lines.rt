@@ -1,5 +1,5 @@
 // The printed lines.
-use machine::refusal::{Outcome, refusal_number, stall_cause, stall_number};
+use machine::refusal::Outcome;
 use std::io;
 
 fn write_number(rt: &HostRuntime, start: &[u8], n: u32) -> io::Result<()> {
@@ -12,10 +12,10 @@ fn write_outcome(rt: &HostRuntime, o: Outcome) -> io::Result<()> {
         Outcome::Idle => rt.write_all(b"i"),
         Outcome::Passed => rt.write_all(b"p"),
         Outcome::Stalled(s) => {
-            write_number(rt, b"s ", stall_number(s))?;
-            write_number(rt, b" ", stall_cause(s))
+            write_number(rt, b"s ", s.number())?;
+            write_number(rt, b" ", s.cause())
         }
-        Outcome::Refused(r) => write_number(rt, b"r ", refusal_number(r)),
+        Outcome::Refused(r) => write_number(rt, b"r ", r.into()),
     }
 }
 
