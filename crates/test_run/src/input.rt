@@ -2,7 +2,6 @@
 ghost use Rattle.std.specs.Prelude.{◌+◌, ◌≤◌, ◌<◌, length};
 
 use run_order::cursor::Cursor;
-use test_machines::lengths::at_most;
 use test_machines::made::MADE_BYTES;
 
 // A case up to its streams.
@@ -22,22 +21,18 @@ pub(crate) struct Taken {
 pub(crate) fn word_at(input: &[u8], at: usize) -> u32
     requires { at + 4 ≤ length input.now }
 {
-    format::number::read(input, at, 4)
+    format::number::read::<4>(input, at)
 }
 
 // The three positions and the next thread. Internal: they are there.
 pub(crate) fn cursor_at(input: &[u8], at: usize) -> Cursor
     requires { at + 16 ≤ length input.now }
 {
-    let at0 = word_at(input, at) as usize;
-    let at1 = word_at(input, at + 4) as usize;
-    let at2 = word_at(input, at + 8) as usize;
-    let next = word_at(input, at + 12);
     Cursor {
-        at0,
-        at1,
-        at2,
-        next,
+        at0: word_at(input, at) as usize,
+        at1: word_at(input, at + 4) as usize,
+        at2: word_at(input, at + 8) as usize,
+        next: word_at(input, at + 12),
     }
 }
 
@@ -61,11 +56,9 @@ fn fill_stream(words: &[u8], back: u32, dst: &mut [u32]) {
         return;
     }
     let mut at: usize = 0;
-    let mut i: usize = 0;
-    while i < dst.len() {
-        dst[i] = word_at(words, at);
+    for word in dst {
+        *word = word_at(words, at);
         at = following(at, back as usize, words.len());
-        i += 1;
     }
 }
 
@@ -84,8 +77,8 @@ pub(crate) fn take_stream(input: &[u8], at: usize, dst: &mut [u32]) -> Taken
     let back = word_at(input, at + 4);
     let length = word_at(input, at + 8) as usize;
     let from = at + STREAM_BYTES;
-    let end = from + at_most(4 * given, input.len() - from);
-    let words = at_most(length, dst.len());
+    let end = from + (4 * given).min(input.len() - from);
+    let words = length.min(dst.len());
     fill_stream(&input[from..end], back, &mut dst[..words]);
     Taken { end, words }
 }

@@ -1,9 +1,9 @@
 // The printed lines.
-use machine::refusal::{refusal_number, stall_cause, stall_number};
+use machine::refusal::StallCause;
 use run::Ran;
 use run_order::cursor::Cursor;
 use run_order::ending::Ending;
-use run_order::stalls::{LastStall, LastStalls};
+use run_order::stalls::LastStalls;
 use std::io;
 
 fn write_text(rt: &HostRuntime, words: &[u8]) -> io::Result<()> {
@@ -20,8 +20,8 @@ fn write_ending(rt: &HostRuntime, e: Ending) -> io::Result<()> {
         Ending::Finished => write_text(rt, b"finished"),
         Ending::Stuck => write_text(rt, b"stuck"),
         Ending::BudgetUsed => write_text(rt, b"budget"),
-        Ending::WordRefused(r) => write_number(rt, b"refused ", refusal_number(r) as u64),
-        Ending::CallRefused(r) => write_number(rt, b"rejected ", refusal_number(r) as u64),
+        Ending::WordRefused(r) => write_number(rt, b"refused ", u32::from(r) as u64),
+        Ending::CallRefused(r) => write_number(rt, b"rejected ", u32::from(r) as u64),
     }
 }
 
@@ -33,35 +33,29 @@ fn write_cursor(rt: &HostRuntime, c: Cursor) -> io::Result<()> {
 }
 
 // `-` for none.
-fn write_stall(rt: &HostRuntime, x: LastStall) -> io::Result<()> {
+fn write_stall(rt: &HostRuntime, x: Option<StallCause>) -> io::Result<()> {
     match x {
-        LastStall::Unstalled => write_text(rt, b" -"),
-        LastStall::StalledBy(s) => {
-            write_number(rt, b" ", stall_number(s) as u64)?;
-            write_number(rt, b":", stall_cause(s) as u64)
+        None => write_text(rt, b" -"),
+        Some(s) => {
+            write_number(rt, b" ", s.number() as u64)?;
+            write_number(rt, b":", s.cause() as u64)
         }
     }
 }
 
 fn write_stalls(rt: &HostRuntime, l: LastStalls) -> io::Result<()> {
-    let x0 = l.t0;
-    let x1 = l.t1;
-    let x2 = l.t2;
     write_text(rt, b" stalls")?;
-    write_stall(rt, x0)?;
-    write_stall(rt, x1)?;
-    write_stall(rt, x2)
+    write_stall(rt, l.t0)?;
+    write_stall(rt, l.t1)?;
+    write_stall(rt, l.t2)
 }
 
 // `END turns N at N N N next N stalls S S S machine D`.
 pub(crate) fn write_line(rt: &HostRuntime, ran: Ran, digest: u32) -> io::Result<()> {
-    let answer = ran.answer;
-    let cursor = ran.cursor;
-    let stalls = ran.stalls;
-    write_ending(rt, answer)?;
+    write_ending(rt, ran.answer)?;
     write_number(rt, b" turns ", ran.turns as u64)?;
-    write_cursor(rt, cursor)?;
-    write_stalls(rt, stalls)?;
+    write_cursor(rt, ran.cursor)?;
+    write_stalls(rt, ran.stalls)?;
     write_number(rt, b" machine ", digest as u64)?;
     write_text(rt, b"\n")
 }
