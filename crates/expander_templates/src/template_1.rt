@@ -1,10 +1,19 @@
 // Template 1, written at a place of the output that has room enough; each answers the place past what it wrote.
-ghost use Rattle.std.specs.Prelude.{◌≡◌, ◌+◌, ◌≤◌, ◌<◌, length};
+ghost use Rattle.std.specs.Prelude.{◌≡◌, ◌+◌, ◌≤◌, ◌<◌, [], ◌∷◌, length};
 ghost use Rattle.bits.specs.Overwrite.{Wrote};
 ghost use Rattle.expander_rules.specs.Templates.{nth, rounds, last_word, inner_round, outer_round, template1};
 
-use bits::put::{put_all, put_one};
+use bits::put::put_one;
 use expander_rules::sizes::NINE;
+
+// Two words, each by a store of its own: a copy of two takes twice as long.
+fn put_pair(out: &mut [u32], at: usize, a: u32, b: u32) -> usize
+    requires { at + 2 ≤ length out.old }
+    ensures { Wrote out.old at (a ∷ b ∷ []) out.new result }
+{
+    let p = put_one(out, at, a);
+    put_one(out, p, b)
+}
 
 // The inner rounds of an outer round; `last` follows m5 in the last of them.
 fn put_inner(nine: &[u32; NINE], last: u32, at: usize, out: &mut [u32]) -> usize
@@ -15,12 +24,13 @@ fn put_inner(nine: &[u32; NINE], last: u32, at: usize, out: &mut [u32]) -> usize
     if count == 0 {
         return at;
     }
-    let pair = [nine[5], nine[6]];
+    let m5 = nine[5];
+    let m6 = nine[6];
     let mut p = at;
     for j in 0..count - 1 {
-        p = put_all(out, p, &pair);
+        p = put_pair(out, p, m5, m6);
     }
-    put_all(out, p, &[nine[5], last])
+    put_pair(out, p, m5, last)
 }
 
 // The word that follows m5 in the last inner round of outer round `o`. Internal: there is such a round.
@@ -39,7 +49,7 @@ fn put_outer(nine: &[u32; NINE], o: u32, at: usize, out: &mut [u32]) -> usize
     let last = last_word(nine, o);
     let p = put_one(out, at, nine[2]);
     let q = put_inner(nine, last, p, out);
-    put_all(out, q, &[nine[3], nine[4]])
+    put_pair(out, q, nine[3], nine[4])
 }
 
 // Internal: the outer rounds.

@@ -11,22 +11,22 @@ returns-then-count-eq0 c =
     let a = c.args in
     rw (rounds_none (inner_round a.nine.now a.last) (nth a.nine.now 1) c.if-count-eq0.true) (wrote_none a.out.now a.at)
 
-pub put_all-p-requires : goal.put_all-p-requires
-put_all-p-requires c =
+pub put_pair-p-requires : goal.put_pair-p-requires
+put_pair-p-requires c =
     let m = c.args.nine.now in
     left_room c.loop-j.invariant (nth m 5 ∷ nth m 6 ∷ []) _ (inner_next m c.args.last c.loop-j.j (omega arith))
 
 pub loop-j-preserved : goal.loop-j-preserved
 loop-j-preserved c =
     let next = inner_next c.args.nine.now c.args.last c.loop-j.j (omega arith) in
-    left_next c.loop-j.invariant next c.put_all-p.ensures
+    left_next c.loop-j.invariant next c.put_pair-p.ensures
 
-pub put_all-requires : goal.put_all-requires
-put_all-requires c =
+pub put_pair-requires : goal.put_pair-requires
+put_pair-requires c =
     let m = c.args.nine.now in
     left_room c.loop-j.invariant (nth m 5 ∷ c.args.last ∷ []) [] (inner_last m c.args.last c.loop-j.j (omega arith))
 
 pub returns : goal.returns
 returns c =
     let last = inner_last c.args.nine.now c.args.last c.loop-j.j (omega arith) in
-    left_done (left_next c.loop-j.invariant last c.put_all.ensures) refl
+    left_done (left_next c.loop-j.invariant last c.put_pair.ensures) refl

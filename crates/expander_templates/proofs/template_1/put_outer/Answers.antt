@@ -17,8 +17,8 @@ put_one-p-requires c = first_fits (parts _ _ _ _ _ c.last_word-last.ensures c.re
 pub put_inner-q-requires : goal.put_inner-q-requires
 put_inner-q-requires c = second_fits (parts _ _ _ _ _ c.last_word-last.ensures c.requires.1) c.put_one-p.ensures
 
-pub put_all-requires : goal.put_all-requires
-put_all-requires c = third_fits (parts _ _ _ _ _ c.last_word-last.ensures c.requires.1) c.put_one-p.ensures c.put_inner-q.ensures
+pub put_pair-requires : goal.put_pair-requires
+put_pair-requires c = third_fits (parts _ _ _ _ _ c.last_word-last.ensures c.requires.1) c.put_one-p.ensures c.put_inner-q.ensures
 
 pub returns : goal.returns
-returns c = wrote_three (parts _ _ _ _ _ c.last_word-last.ensures c.requires.1) c.put_one-p.ensures c.put_inner-q.ensures c.put_all.ensures
+returns c = wrote_three (parts _ _ _ _ _ c.last_word-last.ensures c.requires.1) c.put_one-p.ensures c.put_inner-q.ensures c.put_pair.ensures
