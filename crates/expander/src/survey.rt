@@ -1,4 +1,6 @@
-// Looking ahead over a stream: refusals 7 and 13 in one pass, and the words that it gives, up to one past a limit.
+// Looking ahead over a stream: refusals 7 and 13 in one pass, and the words that it gives, up to one past a limit. Its
+// functions go over words as those of pass.rt do; but these may stop and write nothing, and those can't fail and write: one function over both
+// would need a trait of four laws, which is no plainer.
 ghost use Rattle.std.specs.Prelude.{true, false, ◌≡◌, ℕ, ◌≤◌, Some};
 ghost use Rattle.machine.specs.Answers.{accepted, told};
 ghost use Rattle.expander_rules.specs.Sizes.{needed_most};

@@ -1,4 +1,5 @@
 // Looking ahead: whether a bad REPLAY is obeyed, and how many words are written out. It needs no slots.
+// Its functions go over words as those of pass.rt do: see the expander's survey.rt for why they are two.
 ghost use Rattle.std.specs.Prelude.{◌≡◌, [], ◌∷◌, ◌≤◌, length};
 ghost use Rattle.expander_rules.specs.Sizes.{needed_most};
 ghost use Rattle.expander_rules.specs.Counts.{obeyed_count, written_count};

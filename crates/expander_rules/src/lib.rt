@@ -10,7 +10,7 @@ use machine::refusal::Refusal;
 pub mod sizes;
 
 // A load, the words to come that slots take: the slot for the next word, how many words are to come, and whether they are written out
-// too.
+// too. It has no invariant: one that is carried may be malformed, which 10 refuses, and `EmptyLoads` speaks of such ones.
 #[derive(Clone, Copy, Debug, PartialEq, Eq)]
 pub struct Load {
     pub next: u32,

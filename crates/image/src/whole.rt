@@ -12,7 +12,8 @@ use machine::control::Control;
 use machine::lent::MachineView;
 use machine::sizes::{CONFIG_WORDS, DEST_CELLS, DEST_ROWS, GPRS, SETTINGS, SOURCE_CELLS};
 
-// Writes a machine's image from the start of `out`. Internal: there is room, and the parts have their sizes.
+// Writes a machine's image from the start of `out`. Its slices become arrays here: a view of arrays would be a second struct for this one call,
+// which is no plainer. Internal: there is room, and the parts have their sizes.
 pub(crate) fn write_machine(out: &mut [u8], m: MachineView<'_>)
     requires { (image_size ≤ length out.old) × (length m.settings.now ≡ setting_count) × (length m.gprs.now ≡ gpr_count) × (length m.config.now ≡ config_count) × (length m.dest.now ≡ dest_count) × (length m.marks.now ≡ mark_count) × (length m.src_a.now ≡ source_count) × (length m.src_b.now ≡ source_count) }
     ensures { Wrote out.old 0 (image.put (viewed m.entry)) out.new image_size }

@@ -7,7 +7,7 @@ ghost use Rattle.program_records.specs.ResumeScript.{stream_bytes};
 use crate::head::{BadRecord, WORDS_0, WORDS_1, WORDS_2, body_at};
 use format::HEAD_BYTES;
 
-// How many words each thread has.
+// How many words each thread has. Three fields and no array: definitions and theorems of three crates name them.
 #[derive(Clone, Copy)]
 pub struct Counts {
     pub n0: usize,

@@ -8,6 +8,9 @@ ghost use Rattle.word_control.specs.Given.{given};
 use machine::control::Control;
 use machine::sizes::{BANK_OWNERS, BANK_POINTERS};
 
+// `control_formed` is asked and no type's invariant: a type would have to be proved at each place that builds a control part, for these words
+// alone, which is no plainer.
+
 // The bank at a pointer of a file goes to an owner, and the pointer flips unless it is kept. Internal: the control part is in range, and so are
 // file and pointer.
 fn give(c: Control, file: usize, pointer: usize, owner: u8, keep: bool) -> Control

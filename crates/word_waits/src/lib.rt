@@ -55,7 +55,8 @@ fn stall_held(c: Control, k: u32) -> Option<u8>
         .or(c8.then_some(8))
 }
 
-// As what a semaphore meets the condition, so that its number plus this is the cause: 16 as zero, 24 as full.
+// As what a semaphore meets the condition, so that its number plus this is the cause: 16 as zero, 24 as full. The
+// condition stays the number that SEMWAIT has, which `meets` takes.
 fn meets_as(s: Semaphore, condition: u8) -> Option<u8>
     ensures { result ≡ held_if (meets condition s) (semaphore_cause condition s 0) None }
 {
@@ -93,7 +94,8 @@ fn semaphore_held(all: &[Semaphore; SEMAPHORES], mask: u8, condition: u8) -> Opt
     None
 }
 
-// The block bits that a thread's wait stalls now, what it is held by, and whether it is lifted, so that a passing word drops it.
+// The block bits that a thread's wait stalls now, what it is held by, and whether it is lifted, so that a passing word drops it. `drops` is no
+// flag of the other two: a held wait, a lifted one and none are three cases, and the three are read apart.
 #[derive(Clone, Copy)]
 pub struct Judged {
     pub blocks: u16,
