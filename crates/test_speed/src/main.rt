@@ -6,47 +6,23 @@ mod images;
 mod runs;
 
 use std::io;
-use test_jobs::{BYTES_MOST, Job, Line, WORDS_MOST, next_job, not_done, words_of, write_line};
+use test_jobs::{BYTES_MOST, Job, Kind, Line, WORDS_MOST, all_jobs, words_of};
 
-// Does the job; not where its kind is none, its words are not there, or it asks for more room than there is.
-fn do_job(j: Job, words: &[u32]) -> Line {
+// Does the job; not where its kind is another, its words are not there, or it asks for more room than there is.
+fn do_job(j: Job, words: &[u32]) -> Option<Line> {
     if words.len() < words_of(j) {
-        return not_done();
+        return None;
     }
-    let kind = j.kind;
-    match kind {
-        1 => runs::do_runs(j, words),
-        2 => images::do_saves(j),
-        3 => images::do_loads(j),
-        _ => not_done(),
+    match j.kind {
+        Kind::Run => Some(runs::do_runs(j, words)),
+        Kind::Save => images::do_saves(j),
+        Kind::Load => Some(images::do_loads(j)),
+        Kind::Expand => None,
     }
-}
-
-// Reads a job and does it; false where there is none.
-fn one_job(
-    rt: &HostRuntime,
-    room: &mut [u8; BYTES_MOST],
-    words: &mut [u32; WORDS_MOST],
-) -> io::Result<bool> {
-    let j = next_job(rt, room, words)?;
-    write_line(rt, j.kind, do_job(j, words))
-}
-
-// No input uses the turns up: they are what a proved loop counts down.
-fn all_jobs(
-    rt: &HostRuntime,
-    room: &mut [u8; BYTES_MOST],
-    words: &mut [u32; WORDS_MOST],
-) -> io::Result<()> {
-    let mut turns = u32::MAX;
-    while turns > 0 && one_job(rt, room, words)? {
-        turns -= 1;
-    }
-    Ok(())
 }
 
 fn main(rt: HostRuntime) -> io::Result<()> {
     let mut room = [0u8; BYTES_MOST];
     let mut words = [0u32; WORDS_MOST];
-    all_jobs(&rt, &mut room, &mut words)
+    all_jobs(&rt, &mut room, &mut words, do_job)
 }
