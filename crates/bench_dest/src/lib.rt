@@ -1,10 +1,10 @@
 // Whole Dest rows, in the 16-bit and in the 32-bit view. The bench names the Config bank whose flags set the maps.
-// The views share `find_row` and `stored`; the rest is apart, since a row of one lies in one storage row, and of the other in two, with
+// The views share `find_flags` and `stored`; the rest is apart, since a row of one lies in one storage row, and of the other in two, with
 // cells of another type: a trait would need each of the four bodies as a method, which is no plainer.
 #![tactic(auto)]
 
+mod setting;
 mod stored;
-mod view;
 
 ghost use Rattle.std.specs.Prelude.{◌≡◌};
 ghost use Rattle.machine.specs.Answers.{told, call};
@@ -12,12 +12,12 @@ ghost use Rattle.machine.specs.Machine.{dest_of};
 ghost use Rattle.bench_dest.specs.DestRows.{read_row16_of, write_row16_of, read_row32_of, write_row32_of};
 ghost use Rattle.bench_dest.specs.Promises.{DestPromises};
 
+use crate::setting::find_flags;
 use crate::stored::{read_stored, write_stored};
-use crate::view::find_row;
 use bench_cells::{halves_from, wide_of};
 use bits::put::put_all;
 use dest::maps::{high_row, low_row, storage_row};
-use dest::rows::{VIEW_16_ROWS, VIEW_32_ROWS};
+use dest::rows::{View16Row, View32Row};
 use machine::refusal::Refusal;
 use machine::sizes::ROW_CELLS;
 
@@ -33,7 +33,8 @@ pub fn read_row16(
 ) -> Result<(), Refusal>
     ensures { call (told result) out.new ≡ read_row16_of config.now (dest_of dest.now marks.now) bank row out.old }
 {
-    let (flags, view) = find_row::<VIEW_16_ROWS>(config, dest.len(), marks.len(), bank, row)?;
+    let flags = find_flags(config, dest.len(), marks.len(), bank)?;
+    let view = View16Row::new(row).ok_or(Refusal::BadPlace)?;
     if out.len() < ROW_CELLS {
         return Err(Refusal::ShortOutput);
     }
@@ -55,7 +56,8 @@ pub fn write_row16(
     ensures { call (told result) (dest_of dest.new marks.new) ≡ write_row16_of config.now (dest_of dest.old marks.old) bank row cells.now }
 {
     let cells = cells.as_array::<ROW_CELLS>().ok_or(Refusal::BadLength)?;
-    let (flags, view) = find_row::<VIEW_16_ROWS>(config, dest.len(), marks.len(), bank, row)?;
+    let flags = find_flags(config, dest.len(), marks.len(), bank)?;
+    let view = View16Row::new(row).ok_or(Refusal::BadPlace)?;
     write_stored(dest, marks, storage_row(flags, view), cells);
     Ok(())
 }
@@ -72,7 +74,8 @@ pub fn read_row32(
 ) -> Result<(), Refusal>
     ensures { call (told result) out.new ≡ read_row32_of config.now (dest_of dest.now marks.now) bank row out.old }
 {
-    let (flags, view) = find_row::<VIEW_32_ROWS>(config, dest.len(), marks.len(), bank, row)?;
+    let flags = find_flags(config, dest.len(), marks.len(), bank)?;
+    let view = View32Row::new(row).ok_or(Refusal::BadPlace)?;
     if out.len() < ROW_CELLS {
         return Err(Refusal::ShortOutput);
     }
@@ -95,8 +98,14 @@ pub fn write_row32(
     ensures { call (told result) (dest_of dest.new marks.new) ≡ write_row32_of config.now (dest_of dest.old marks.old) bank row cells.now }
 {
     let cells = cells.as_array::<ROW_CELLS>().ok_or(Refusal::BadLength)?;
-    let (flags, view) = find_row::<VIEW_32_ROWS>(config, dest.len(), marks.len(), bank, row)?;
-    write_stored(dest, marks, high_row(flags, view), &halves_from::<16>(cells));
+    let flags = find_flags(config, dest.len(), marks.len(), bank)?;
+    let view = View32Row::new(row).ok_or(Refusal::BadPlace)?;
+    write_stored(
+        dest,
+        marks,
+        high_row(flags, view),
+        &halves_from::<16>(cells),
+    );
     write_stored(dest, marks, low_row(flags, view), &halves_from::<0>(cells));
     Ok(())
 }

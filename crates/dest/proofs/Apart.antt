@@ -4,8 +4,10 @@ use mathlib.Core.Path.{◌≡◌, refl, sym, ap, ◌∙◌}
 use mathlib.Core.Bool.{true, false}
 use native.Mathlib.Omega.{arith}
 use Rattle.dest.specs.declared.flags.Flags.{Flags}
+use Rattle.dest.specs.declared.rows.View16Row.{View16Row}
+use Rattle.dest.specs.declared.rows.View32Row.{View32Row}
 use Rattle.dest.specs.declared.rows.StorageRow.{StorageRow}
-use Rattle.dest.specs.Rows.{View16Row, View32Row, rows16, rows32, storage_rows, storage_row}
+use Rattle.dest.specs.Rows.{rows16, rows32, storage_rows, storage_row}
 use Rattle.dest.specs.Maps.{storage16, high32, low32}
 use Rattle.dest.specs.Cover.{Covers, Half, storage32}
 use Rattle.dest.proofs.Covering.{views_cover}

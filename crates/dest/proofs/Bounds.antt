@@ -3,7 +3,8 @@ use Prim.Native.Nat.{ℕ, ◌+◌, ◌*◌, ◌/◌, ◌%◌, ◌<◌}
 use native.Mathlib.Omega.{arith}
 use lib.Bits.{bit_xor, xor_lt}
 use Rattle.dest.specs.declared.flags.Flags.{Flags}
-use Rattle.dest.specs.Rows.{View32Row, storage_rows}
+use Rattle.dest.specs.declared.rows.View32Row.{View32Row}
+use Rattle.dest.specs.Rows.{storage_rows}
 use Rattle.dest.specs.Maps.{spread, high32, low32}
 
 -- three bits under those from 6 on, and then bits 0–2

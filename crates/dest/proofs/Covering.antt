@@ -7,8 +7,9 @@ use borrow.Author.Tests.{eqb-true, ltb-true}
 use Rattle.bits.specs.Field.{field, flag}
 use Rattle.bits.proofs.Choices.{and_left, and_right}
 use Rattle.dest.specs.declared.flags.Flags.{Flags}
+use Rattle.dest.specs.declared.rows.View16Row.{View16Row}
 use Rattle.dest.specs.declared.rows.StorageRow.{StorageRow}
-use Rattle.dest.specs.Rows.{View16Row, rows16, rows32, storage_rows, view16, view32, storage_row}
+use Rattle.dest.specs.Rows.{rows16, rows32, storage_rows, view16, view32, storage_row}
 use Rattle.dest.specs.Flags.{flags}
 use Rattle.dest.specs.Maps.{remapped, swizzled, spread, after_remap, after_swizzle, storage16, high32, low32}
 use Rattle.dest.specs.Cover.{Covers, Half, In16View, In32View, storage32, ViewsCover}

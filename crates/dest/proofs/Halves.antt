@@ -4,7 +4,9 @@ use mathlib.Core.Path.{◌≡◌, refl}
 use native.Mathlib.Omega.{arith}
 use Rattle.bits.proofs.Choices.{cond_both}
 use Rattle.dest.specs.declared.flags.Flags.{Flags}
-use Rattle.dest.specs.Rows.{View16Row, View32Row, rows32}
+use Rattle.dest.specs.declared.rows.View16Row.{View16Row}
+use Rattle.dest.specs.declared.rows.View32Row.{View32Row}
+use Rattle.dest.specs.Rows.{rows32}
 use Rattle.dest.specs.Maps.{remapped, swizzled, spread, after_remap, after_swizzle, storage16, high32, low32}
 use Rattle.dest.proofs.Bounds.{crossed_lt}
 

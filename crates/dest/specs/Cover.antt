@@ -1,8 +1,10 @@
 -- In every setting, each view covers every storage row exactly once.
 use Rattle.std.specs.Prelude.{◌<◌, ◌≡◌, Bool, cond}
 use Rattle.dest.specs.declared.flags.Flags.{Flags}
+use Rattle.dest.specs.declared.rows.View16Row.{View16Row}
+use Rattle.dest.specs.declared.rows.View32Row.{View32Row}
 use Rattle.dest.specs.declared.rows.StorageRow.{StorageRow}
-use Rattle.dest.specs.Rows.{View16Row, View32Row, rows16, rows32, storage_rows}
+use Rattle.dest.specs.Rows.{rows16, rows32, storage_rows}
 use Rattle.dest.specs.Maps.{storage16, high32, low32}
 
 -- exactly one of the places that are `In` is taken to q

@@ -3,8 +3,10 @@ use Rattle.std.specs.Prelude.{ℕ, ◌+◌, ◌*◌, ◌/◌, ◌^◌, cond}
 use Rattle.std.specs.Int.Bits.{bit_xor}
 use Rattle.bits.specs.Field.{field}
 use Rattle.dest.specs.declared.flags.Flags.{Flags}
+use Rattle.dest.specs.declared.rows.View16Row.{View16Row}
+use Rattle.dest.specs.declared.rows.View32Row.{View32Row}
 use Rattle.dest.specs.declared.rows.StorageRow.{StorageRow}
-use Rattle.dest.specs.Rows.{View16Row, View32Row, storage_row}
+use Rattle.dest.specs.Rows.{storage_row}
 
 -- bit 4 moves to 3, 5 to 4, 3 to 5; bits 0–2 and those from 6 on stay
 unfoldable pub remapped : ℕ → ℕ

@@ -1,6 +1,7 @@
 -- The rows of the two views, by their limits, and the rows of storage.
 use Rattle.std.specs.Prelude.{ℕ, cond, ltb, Option, Some, None}
-use Rattle.dest.specs.declared.rows.ViewRow.{ViewRow}
+use Rattle.dest.specs.declared.rows.View16Row.{View16Row}
+use Rattle.dest.specs.declared.rows.View32Row.{View32Row}
 use Rattle.dest.specs.declared.rows.StorageRow.{StorageRow}
 
 abbrev pub rows16 : ℕ
@@ -12,12 +13,6 @@ rows32 = 512
 abbrev pub storage_rows : ℕ
 storage_rows = 1024
 
-abbrev pub View16Row : Type 0
-View16Row = ViewRow rows16
-
-abbrev pub View32Row : Type 0
-View32Row = ViewRow rows32
-
 abbrev pub view16 : ℕ → View16Row
 view16 n = record { 0 = n }
 
@@ -27,14 +22,10 @@ view32 n = record { 0 = n }
 abbrev pub storage_row : ℕ → StorageRow
 storage_row n = record { 0 = n }
 
--- a row of a view is below its limit
-abbrev pub row_of : (rows : ℕ) → ℕ → Option (ViewRow rows)
-row_of rows n = cond (ltb n rows) (Some (record { 0 = n })) None
-
 -- a 16-bit view row is 0–1023
 abbrev pub row16_of : ℕ → Option View16Row
-row16_of = row_of rows16
+row16_of n = cond (ltb n rows16) (Some (view16 n)) None
 
 -- a 32-bit view row is 0–511
 abbrev pub row32_of : ℕ → Option View32Row
-row32_of = row_of rows32
+row32_of n = cond (ltb n rows32) (Some (view32 n)) None

@@ -4,7 +4,7 @@
 
 use dest::flags::{Flags, flags_of};
 use dest::maps;
-use dest::rows::{StorageRow, VIEW_16_ROWS, VIEW_32_ROWS, View16Row, View32Row};
+use dest::rows::{StorageRow, View16Row, View32Row};
 use std::io;
 
 fn write_flag(rt: &HostRuntime, on: bool, letter: &[u8]) -> io::Result<()> {
@@ -66,10 +66,10 @@ fn write_view<W: Fn(&HostRuntime, Flags, u32) -> io::Result<()>>(
 
 // Every setting that a view tells apart; some of the words have bits set that are no flag, or not for the view.
 fn main(rt: HostRuntime) -> io::Result<()> {
-    write_view(&rt, write_16, VIEW_16_ROWS, 2)?;
-    write_view(&rt, write_16, VIEW_16_ROWS, 0xffff_fffd)?;
-    write_view(&rt, write_32, VIEW_32_ROWS, 0)?;
-    write_view(&rt, write_32, VIEW_32_ROWS, 1)?;
-    write_view(&rt, write_32, VIEW_32_ROWS, 0xffff_fffe)?;
-    write_view(&rt, write_32, VIEW_32_ROWS, 3)
+    write_view(&rt, write_16, View16Row::ROWS, 2)?;
+    write_view(&rt, write_16, View16Row::ROWS, 0xffff_fffd)?;
+    write_view(&rt, write_32, View32Row::ROWS, 0)?;
+    write_view(&rt, write_32, View32Row::ROWS, 1)?;
+    write_view(&rt, write_32, View32Row::ROWS, 0xffff_fffe)?;
+    write_view(&rt, write_32, View32Row::ROWS, 3)
 }

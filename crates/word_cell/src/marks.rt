@@ -84,7 +84,7 @@ fn clear_row32(marks: &mut [bool; DEST_ROWS], flags: Flags, row: View32Row)
 }
 
 // The view row of a number cleared: here alone ZEROACC's number becomes a row of the view that its word names.
-#[tactic(auto, using(dest::proofs::Views::within_view), unfolding(word_rules::specs::Marks::clear_row))]
+#[tactic(auto, using(dest::proofs::Views::in_view16, dest::proofs::Views::in_view32), unfolding(word_rules::specs::Marks::clear_row))]
 fn clear_row(marks: &mut [bool; DEST_ROWS], flags: Flags, wide: bool, row: u16)
     requires { row < view_rows wide }
     ensures { marks.new ≡ clear_row wide flags row marks.old }
