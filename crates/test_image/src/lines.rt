@@ -1,7 +1,11 @@
 // The printed lines.
-use image::Saved;
-use machine::refusal::{Refusal, refusal_number};
+use machine::refusal::Refusal;
 use std::io;
+use test_machines::sums;
+
+pub(crate) fn sum_of(bytes: &[u8]) -> u32 {
+    sums::checksum(sums::add_bytes(sums::start(), bytes))
+}
 
 fn write_number(rt: &HostRuntime, start: &[u8], n: u64) -> io::Result<()> {
     rt.write_all(start)?;
@@ -15,7 +19,7 @@ fn end_line(rt: &HostRuntime, sum: u32) -> io::Result<()> {
 
 // `r N SUM`, or `r 9 OFFSET SUM`.
 pub(crate) fn write_refused(rt: &HostRuntime, r: Refusal, sum: u32) -> io::Result<()> {
-    write_number(rt, b"r ", refusal_number(r) as u64)?;
+    write_number(rt, b"r ", u32::from(r) as u64)?;
     if let Refusal::BadImage(offset) = r {
         write_number(rt, b" ", offset as u64)?;
     }
@@ -23,10 +27,10 @@ pub(crate) fn write_refused(rt: &HostRuntime, r: Refusal, sum: u32) -> io::Resul
 }
 
 // `w SUM`, or that it is refused.
-pub(crate) fn write_saved(rt: &HostRuntime, s: Saved, sum: u32) -> io::Result<()> {
+pub(crate) fn write_saved(rt: &HostRuntime, s: Result<(), Refusal>, sum: u32) -> io::Result<()> {
     match s {
-        Saved::Refused(r) => write_refused(rt, r, sum),
-        Saved::Written => {
+        Err(r) => write_refused(rt, r, sum),
+        Ok(()) => {
             rt.write_all(b"w")?;
             end_line(rt, sum)
         }

@@ -7,7 +7,6 @@
 #![tactic(auto)]
 
 mod group;
-mod lent;
 mod lines;
 mod loads;
 
