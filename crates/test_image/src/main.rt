@@ -24,19 +24,9 @@ fn run_groups(rt: &HostRuntime, input: &[u8]) -> io::Result<()> {
     Ok(())
 }
 
-// The groups of standard input, which `input` takes.
-fn run_input(rt: &HostRuntime, input: &mut [u8]) -> io::Result<()> {
-    let n = read_full(&mut rt.stdin(), input)?;
-    group::save_fresh(rt)?;
-    run_groups(rt, &input[..n])
-}
-
-// The same, in an array that is lent whole.
-fn run_in(rt: &HostRuntime, input: &mut [u8; INPUT_MOST]) -> io::Result<()> {
-    run_input(rt, input)
-}
-
 fn main(rt: HostRuntime) -> io::Result<()> {
     let mut input = [0; INPUT_MOST];
-    run_in(&rt, &mut input)
+    let n = read_full(&mut rt.stdin(), &mut input)?;
+    group::save_fresh(&rt)?;
+    run_groups(&rt, &input[..n])
 }
