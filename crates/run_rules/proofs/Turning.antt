@@ -7,18 +7,15 @@ use native.Mathlib.Omega.{arith}
 use lib.Dec.{ltb, eqb}
 use lib.ListN.{length, get_or}
 use borrow.Author.Tests.{ltb-true}
-use Rattle.bits.proofs.Choices.{and_left, and_right}
 use Rattle.machine.specs.Machine.{Machine}
-use Rattle.machine.proofs.StoreFacts.{SizedFacts, sized_facts}
-use Rattle.machine.specs.Formed.{sized, formed, control_formed}
 use Rattle.machine.specs.Answers.{Told, accepted, refused}
 use Rattle.machine.specs.Outcomes.{Progress, idle, passed, stalled}
-use Rattle.step_rules.specs.Step.{Step, offer_of}
+use Rattle.step_rules.specs.Step.{offer_of}
 use Rattle.step_rules.proofs.Kept.{offer_kept}
 use Rattle.run_order.specs.declared.cursor.Cursor.{Cursor}
 use Rattle.std.specs.Prelude.{Option, Some, None}
 use Rattle.run_order.specs.Cursor.{Streams, word_at, next_word, cursor, following, onward_of, past_of, moved_of}
-use Rattle.run_rules.specs.Run.{turned, by_word, turn_of}
+use Rattle.run_rules.specs.Run.{by_word, turn_of}
 use Rattle.run_rules.specs.Ready.{Within, Ready}
 
 -- the cursor after a turn is its outcome's

@@ -16,7 +16,7 @@ use machine_formed::{machine_formed, machine_sized};
 use step_offer::offer;
 use word_rules::stepped::Stepped;
 
-// The thread, or refusal 4, 10 or 1.
+// Refusals 4, 10 and 1.
 #[tactic(auto, unfolding(step_rules::specs::Step::check_of))]
 fn check_step(m: MachineView<'_>, thread: u32) -> Result<(), Refusal>
     ensures { told result ≡ check_of (viewed m.entry) thread }

@@ -1,4 +1,3 @@
-use Rattle.machine.specs.Lent.{machine_at}
 use Rattle.step_rules.proofs.Offering.{offer_on_control, offer_on_stores}
 use Rattle.step_offer.specs.StoreWords.{stores_in}
 use Rattle.step_offer.proofs.offer.Goals as goal
