@@ -1,4 +1,5 @@
 -- Inputs longer than what the program reads.
+use Rattle.std.specs.Prelude.{Result, Ok, Err}
 use Prim.Native.Nat.{ℕ, ◌+◌}
 use mathlib.Core.Path.{◌≡◌, refl}
 use mathlib.Core.List.{List, ◌++◌}
@@ -7,15 +8,15 @@ use lib.ListN.{length, take, drop, length-drop}
 use lib.Seq.{take-append-le, drop-append-le}
 use Rattle.machine.specs.Machine.{Machine}
 use Rattle.image_layout.specs.Image.{image_size}
-use Rattle.program_records.specs.declared.resume_script.ResumeRead.{ResumeRead}
-use Rattle.program_records.specs.declared.resume_script.ResumeRead.TheVariants.{Whole, Faulty}
+use Rattle.program_records.specs.declared.head.BadRecord.{BadRecord}
+use Rattle.program_records.specs.declared.resume_script.ResumeScript.{ResumeScript}
 use Rattle.program_records.specs.ResumeScript.{resume_script_of, resume_script_most}
 use Rattle.program_records.proofs.Longer.{Unsound, resume_longer}
 use Rattle.program_resume.specs.Resume.{image_machine, by_records, records_of, printed_of, resume_of, LongResumes}
 
-told_alike : (came t u : List ℕ) (m : Machine) (r : ResumeRead) → Unsound r → by_records came t m r ≡ by_records came u m r
-told_alike came t u m (Whole s) h = absurd h
-told_alike came t u m (Faulty n) h = refl
+told_alike : (came t u : List ℕ) (m : Machine) (r : Result ResumeScript BadRecord) → Unsound r → by_records came t m r ≡ by_records came u m r
+told_alike came t u m (Ok s) h = absurd h
+told_alike came t u m (Err e) h = refl
 
 records_longer : (came t more : List ℕ) (m : Machine) → length t ≡ resume_script_most + 1 → records_of came (t ++ more) m ≡ records_of came t m
 unfolding records_of

@@ -1,7 +1,9 @@
 -- What is told of a run, and an image written into the rest of the output.
+use Rattle.std.specs.Prelude.{Result}
+use Rattle.machine.specs.declared.refusal.Refusal.{Refusal}
 use Prim.Native.Nat.{ℕ, ◌+◌, ◌-◌, ◌≤◌}
 use mathlib.Core.Path.{◌≡◌, sym, ap, ◌∙◌}
-use mathlib.Core.Bool.{true, false}
+use mathlib.Core.Bool.{true}
 use mathlib.Core.List.{List, [], ◌++◌, append-nil}
 use native.Mathlib.Nat.{zero-add}
 use native.Mathlib.Omega.{arith}
@@ -12,15 +14,11 @@ use Rattle.bits.proofs.Choices.{and_left, and_right}
 use Rattle.machine.specs.Machine.{Machine}
 use Rattle.machine.specs.Formed.{sized, formed, well_formed}
 use Rattle.machine.specs.Answers.{Call}
-use Rattle.run_rules.specs.Run.{Summary}
 use Rattle.image_layout.specs.Image.{image, image_size}
 use Rattle.image_layout.proofs.ImageLaws.{image_lawful, formed_ok}
-use Rattle.image.specs.declared.Saved.{Saved}
 use Rattle.image.specs.Calls.{save_call, save_of}
 use Rattle.image.proofs.Answers.{save_written}
-use Rattle.program_records.specs.declared.counts.Counts.{Counts}
-use Rattle.program_report.specs.Lines.{end_line}
-use Rattle.program_resume.specs.Told.{image_bytes, six_lines, call_refused, told_of}
+use Rattle.program_resume.specs.Told.{image_bytes}
 
 -- what is written from the start of a list's rest is written at the place where the rest begins
 over_rest : (out : List ℕ) (at : ℕ) (bs : List ℕ) → at ≤ length out →
@@ -37,7 +35,7 @@ pub image_long : (m : Machine) → well_formed m ≡ true → length (image_byte
 unfolding image_bytes
 image_long m h = image_lawful.long m (formed_ok m h)
 
-pub image_written : (m : Machine) (out : List ℕ) (at : ℕ) (r : Saved) (o : List ℕ) → well_formed m ≡ true → at + image_size ≤ length out →
+pub image_written : (m : Machine) (out : List ℕ) (at : ℕ) (r : Result (Unit {0}) Refusal) (o : List ℕ) → well_formed m ≡ true → at + image_size ≤ length out →
     save_call r o ≡ save_of m (take (length out - at) (drop at out)) →
     Wrote out at (image_bytes m) (take at out ++ (o ++ drop (length out - at) (drop at out))) (at + image_size)
 unfolding image_bytes
@@ -53,12 +51,3 @@ image_written m out at r o h room e =
       placed = ap (λ (n : ℕ). at + n) (sym (image_lawful.long m (formed_ok m h)));
       list = rw same (over_rest out at (image.put m) (omega arith));
     }
-
-module _ (came : List ℕ) (r : Summary) (n : Counts) where
-  pub told_rejected : call_refused r.answer ≡ true → end_line r.answer ++ came ≡ told_of came r n
-  unfolding told_of
-  told_rejected e = rw e
-
-  pub told_ran : call_refused r.answer ≡ false → six_lines r n ++ image_bytes r.after ≡ told_of came r n
-  unfolding told_of
-  told_ran e = rw e

@@ -1,12 +1,11 @@
 -- What the program `resume` prints for each input there is: an image, then records 32 to 36.
-use Rattle.std.specs.Prelude.{ℕ, ◌+◌, ◌≤◌, ◌≡◌, Bool, cond, List, ◌++◌, length, take, drop}
+use Rattle.std.specs.Prelude.{ℕ, ◌+◌, ◌≤◌, ◌≡◌, Bool, cond, List, ◌++◌, length, take, drop, Result, Ok, Err}
 use Rattle.machine.specs.Machine.{Machine}
 use Rattle.format.specs.Format.{accepts}
 use Rattle.image_layout.specs.Image.{image, image_size}
 use Rattle.run_rules.specs.Run.{Summary, run_of, summary_of}
 use Rattle.program_records.specs.declared.resume_script.ResumeScript.{ResumeScript}
-use Rattle.program_records.specs.declared.resume_script.ResumeRead.{ResumeRead}
-use Rattle.program_records.specs.declared.resume_script.ResumeRead.TheVariants.{Whole, Faulty}
+use Rattle.program_records.specs.declared.head.BadRecord.{BadRecord}
 use Rattle.program_records.specs.Counts.{streams_of}
 use Rattle.program_records.specs.ResumeScript.{resume_script_of, resume_script_most}
 use Rattle.program_report.specs.Texts.{bad_record_text, bad_image_text}
@@ -29,9 +28,9 @@ image_fine bs = accepts image bs
 unfoldable pub resume_run : List ℕ → Machine → ResumeScript → Summary
 resume_run tail m s = summary_of s.cursor (run_of (streams_of tail s.counts) m s.cursor s.budget)
 
-abbrev pub by_records : List ℕ → List ℕ → Machine → ResumeRead → List ℕ
-by_records came tail m (Whole s) = told_of came (resume_run tail m s) s.counts
-by_records came tail m (Faulty n) = number_line bad_record_text (image_size + n)
+abbrev pub by_records : List ℕ → List ℕ → Machine → Result ResumeScript BadRecord → List ℕ
+by_records came tail m (Ok s) = told_of came (resume_run tail m s) s.counts
+by_records came tail m (Err e) = number_line bad_record_text (image_size + e.at)
 
 -- of a machine loaded from the image that came, and the records after the image: what is told, or `bad record at N`, N counted
 -- from the start of the input

@@ -23,10 +23,7 @@ pub const RESUME_ROOM: usize = IMAGE_BYTES + LINES_BYTES;
 fn image_end(s: &[u8]) -> usize
     ensures { Split s.now result }
 {
-    if s.len() < IMAGE_BYTES {
-        return s.len();
-    }
-    IMAGE_BYTES
+    s.len().min(IMAGE_BYTES)
 }
 
 // Everything that the program prints for an input. Internal: there is room.

@@ -1,5 +1,5 @@
-use Rattle.program_resume.proofs.Splitting.{split_short}
+use Rattle.program_resume.proofs.Splitting.{split_min}
 use Rattle.program_resume.proofs.image_end.Goals as goal
 
-pub returns-then-s-lt-IMAGE_BYTES : goal.returns-then-s-lt-IMAGE_BYTES
-returns-then-s-lt-IMAGE_BYTES c = split_short c.args.s.now c.if-s-lt-IMAGE_BYTES.true
+pub returns : goal.returns
+returns c = split_min c.args.s.now _ c.min.ensures

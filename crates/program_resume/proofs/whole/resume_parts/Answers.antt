@@ -11,24 +11,22 @@ use Rattle.program_resume.proofs.whole.resume_parts.Goals as goal
 pub resume_records-requires : goal.resume_records-requires
 resume_records-requires c =
     let a = c.args in
-    let l = c.load_whole-loaded in
-    let load = l.ensures ∙ ap (load_of a.came.now) c.fresh.ensures.whole in
+    let l = c.load_whole in
+    let load = l.ensures ∙ ap (load_of a.came.now) c.fresh-m.ensures.whole in
     let bytes : Bytes a.came.now = λ (i : ℕ). omega (arith, c.type_inv.came i) in
-    (loaded_formed a.came.now a.tail.now l.result.answer (machine_of l.result.machine) load c.in-Taken.is bytes, c.requires.0, c.requires.1)
+    (loaded_formed a.came.now a.tail.now l.result (machine_of l.new.m) load c.in-Ok.is bytes, c.requires.0, c.requires.1)
 
-pub returns-in-Refused : goal.returns-in-Refused
-returns-in-Refused c =
+pub returns-in-Err : goal.returns-in-Err
+returns-in-Err c =
     let a = c.args in
-    let l = c.load_whole-loaded in
-    let load = l.ensures ∙ ap (load_of a.came.now) c.fresh.ensures.whole in
+    let l = c.load_whole in
+    let load = l.ensures ∙ ap (load_of a.came.now) c.fresh-m.ensures.whole in
     let o = c.bad_offset in
-    let same = parts_bad a.came.now a.tail.now l.result.answer (machine_of l.result.machine) load c.in-Refused.r o.result o.ensures c.in-Refused.is in
-    wrote_as same c.put_number_line.ensures.wrote
+    wrote_as (parts_bad a.came.now a.tail.now l.result (machine_of l.new.m) load c.in-Err.r o.result o.ensures c.in-Err.is) c.put_number_line.ensures.wrote
 
-pub returns-in-Taken : goal.returns-in-Taken
-returns-in-Taken c =
+pub returns-in-Ok : goal.returns-in-Ok
+returns-in-Ok c =
     let a = c.args in
-    let l = c.load_whole-loaded in
-    let load = l.ensures ∙ ap (load_of a.came.now) c.fresh.ensures.whole in
-    let same = parts_taken a.came.now a.tail.now l.result.answer (machine_of l.result.machine) load c.in-Taken.is in
-    wrote_as same c.resume_records.ensures
+    let l = c.load_whole in
+    let load = l.ensures ∙ ap (load_of a.came.now) c.fresh-m.ensures.whole in
+    wrote_as (parts_taken a.came.now a.tail.now l.result (machine_of l.new.m) load c.in-Ok.is) c.resume_records.ensures
