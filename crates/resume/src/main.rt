@@ -17,7 +17,7 @@ fn answer(rt: &HostRuntime, room: &mut [u8], out: &mut [u8]) -> io::Result<()>
     rt.write_all(&out[..m])
 }
 
-// The same, in arrays that are lent whole.
+// The same, in arrays that are lent whole: a slice of such an array where it is made, with its bytes written out, gets no proof.
 fn answer_in(
     rt: &HostRuntime,
     room: &mut [u8; RESUME_READS],

@@ -2,24 +2,19 @@
 // oracle/cases/cases_emulate.py makes them and the output that is expected.
 #![tactic(auto)]
 
-ghost use Rattle.std.specs.Prelude.{◌≤◌, IfOk};
-
-use format::number::read_half;
+use format::number::read;
 use program_emulate::EMULATE_READS;
 use program_io::read_full;
 use program_report::LINES_BYTES;
 use std::io;
 
 // The length of the next input, or none where there is no input left.
-fn next_length(rt: &HostRuntime) -> io::Result<usize>
-    ensures { IfOk result (λ n. n ≤ 65536) }
-{
+fn next_length(rt: &HostRuntime) -> io::Result<Option<usize>> {
     let mut head = [0u8; 4];
-    let got = read_full(&mut rt.stdin(), &mut head)?;
-    if got < 4 {
-        return Ok(65536);
+    if read_full(&mut rt.stdin(), &mut head)? < 4 {
+        return Ok(None);
     }
-    Ok(read_half(&head, 0) as usize)
+    Ok(Some(read::<2>(&head, 0) as usize))
 }
 
 // Writes the first m bytes.
@@ -39,7 +34,9 @@ fn answer_in(rt: &HostRuntime, room: &mut [u8], out: &mut [u8; LINES_BYTES]) -> 
 
 // Answers the next input, in the room lent for it; whether there was one.
 fn answer(rt: &HostRuntime, room: &mut [u8], out: &mut [u8; LINES_BYTES]) -> io::Result<bool> {
-    let n = next_length(rt)?;
+    let Some(n) = next_length(rt)? else {
+        return Ok(false);
+    };
     if room.len() < n {
         return Ok(false);
     }
@@ -53,9 +50,10 @@ fn answer_all(
     room: &mut [u8; EMULATE_READS],
     out: &mut [u8; LINES_BYTES],
 ) -> io::Result<()> {
-    let mut turns = u32::MAX;
-    while turns > 0 && answer(rt, room, out)? {
-        turns -= 1;
+    for _ in 0..u32::MAX {
+        if !answer(rt, room, out)? {
+            break;
+        }
     }
     Ok(())
 }

@@ -7,7 +7,6 @@ use image_layout::IMAGE_BYTES;
 use program_io::read_full;
 use program_resume::RESUME_ROOM;
 use std::io;
-use test_machines::lengths::at_most;
 use test_machines::whole::seeded_machine;
 use whole_machine::images::save_whole;
 
@@ -29,13 +28,13 @@ struct Case {
 
 fn read_case(s: &[u8; CASE_BYTES]) -> Case {
     Case {
-        seed: read(s, 0, 4),
-        place: read(s, 4, 4),
-        byte: read(s, 8, 4),
-        keep: read(s, 12, 4),
-        before: read(s, 16, 4),
-        fill: read(s, 20, 4),
-        after: read(s, 24, 4),
+        seed: read::<4>(s, 0),
+        place: read::<4>(s, 4),
+        byte: read::<4>(s, 8),
+        keep: read::<4>(s, 12),
+        before: read::<4>(s, 16),
+        fill: read::<4>(s, 20),
+        after: read::<4>(s, 24),
     }
 }
 
@@ -44,10 +43,7 @@ fn end_of(at: usize, n: u32, len: usize) -> usize
     requires { at ≤ len }
     ensures { (at ≤ result) × (result ≤ len) }
 {
-    if (n as usize) < len - at {
-        return at + n as usize;
-    }
-    len
+    at + (n as usize).min(len - at)
 }
 
 // Reads `n` bytes of the case to `at`; answers where they end.
@@ -66,18 +62,13 @@ fn fill_to(room: &mut [u8], at: usize, n: u32) -> usize
     ensures { (at ≤ result) × (result ≤ length room.new) }
 {
     let end = end_of(at, n, room.len());
-    let mut i = at;
-    while i < end {
-        room[i] = 2;
-        i += 1;
-    }
+    room[at..end].fill(2);
     end
 }
 
 fn set_byte(room: &mut [u8], place: u32, byte: u32) {
-    let i = place as usize;
-    if i < room.len() {
-        room[i] = (byte % 256) as u8;
+    if let Some(b) = room.get_mut(place as usize) {
+        *b = (byte % 256) as u8;
     }
 }
 
@@ -85,8 +76,8 @@ fn set_byte(room: &mut [u8], place: u32, byte: u32) {
 fn make_input(rt: &HostRuntime, c: Case, room: &mut [u8]) -> io::Result<usize>
     ensures { IfOk result (λ n. n ≤ length room.new) }
 {
-    save_whole(seeded_machine(c.seed), room);
-    let start = at_most(IMAGE_BYTES, room.len());
+    let _ = save_whole(&seeded_machine(c.seed), room);
+    let start = IMAGE_BYTES.min(room.len());
     let a = read_to(rt, room, start, c.before)?;
     let b = fill_to(room, a, c.fill);
     let e = read_to(rt, room, b, c.after)?;
@@ -101,8 +92,7 @@ pub(crate) fn answer(
     out: &mut [u8; RESUME_ROOM],
 ) -> io::Result<bool> {
     let mut head = [0u8; CASE_BYTES];
-    let got = read_full(&mut rt.stdin(), &mut head)?;
-    if got < CASE_BYTES {
+    if read_full(&mut rt.stdin(), &mut head)? < CASE_BYTES {
         return Ok(false);
     }
     let n = make_input(rt, read_case(&head), room)?;

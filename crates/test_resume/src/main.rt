@@ -15,9 +15,10 @@ fn answer_all(
     room: &mut [u8; RESUME_READS],
     out: &mut [u8; RESUME_ROOM],
 ) -> io::Result<()> {
-    let mut turns = u32::MAX;
-    while turns > 0 && case::answer(rt, room, out)? {
-        turns -= 1;
+    for _ in 0..u32::MAX {
+        if !case::answer(rt, room, out)? {
+            break;
+        }
     }
     Ok(())
 }
