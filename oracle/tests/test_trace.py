@@ -93,6 +93,12 @@ def missing_in_prose(text):
     return [f'{path}: {one}' for path, names in cited for one in names_in(names) if one not in declared(path)]
 
 
+def declaration(entry):
+    """How a source declares an entry of the README's table: a public function, or a conversion, `u32::from(Refusal)`."""
+    converted = re.fullmatch(r'(\w+)::from\((\w+)\)', entry)
+    return r'impl From<{1}> for {0} \{{'.format(*converted.groups()) if converted else r'pub fn ' + entry.split('::')[-1] + r'\b'
+
+
 class Trace(unittest.TestCase):
     def test_every_place_is_there(self):
         self.assertEqual(list(missing((TOP / 'docs/TRACE.md').read_text())), [])
@@ -214,7 +220,7 @@ class Files(unittest.TestCase):
             crate = entries[0].split('::')[0]
             source = '\n'.join(path.read_text() for path in sorted((TOP / 'crates' / crate / 'src').glob('*.rt')))
             for entry in entries:
-                self.assertRegex(source, r'pub fn ' + entry.split('::')[-1] + r'\b', entry)
+                self.assertRegex(source, declaration(entry), entry)
 
     def test_definitions_are_there(self):
         """Each definition and theorem of that table, and of the conditions above it, is declared in some specs/."""
