@@ -21,12 +21,12 @@ pub fn halves_from<const AT: u32>(cells: &[u32; ROW_CELLS]) -> [u16; ROW_CELLS]
     halves
 }
 
-// The 32-bit cells that high and low halves make.
+// The 32-bit cells that so many high and low halves make.
 #[tactic(auto, using(crate::proofs::Halves::wide_each))]
-pub fn wide_of(high: &[u16; ROW_CELLS], low: &[u16; ROW_CELLS]) -> [u32; ROW_CELLS]
+pub fn wide_of<const N: usize>(high: &[u16; N], low: &[u16; N]) -> [u32; N]
     ensures { result ≡ wide_cells high.now low.now }
 {
-    let mut cells = [0u32; ROW_CELLS];
+    let mut cells = [0u32; N];
     for (i, cell) in cells.iter_mut().enumerate() {
         *cell = high[i] as u32 * 65536 + low[i] as u32;
     }

@@ -5,8 +5,8 @@ use mathlib.Core.List.{List, [], ◌∷◌, ◌++◌, append_assoc, append-nil}
 use native.Mathlib.Nat.{add_assoc, add-zero}
 use native.Mathlib.Numerals.{add-one}
 use native.Mathlib.Omega.{arith}
-use lib.ListN.{length, take, drop, set, length-take, length-drop, length-append, take-append-drop, drop_of_length-le, replicate}
-use lib.Seq.{take_at, drop_at, drop-drop, set_split}
+use lib.ListN.{get_or, length, take, drop, set, length-take, length-drop, length-append, take-append-drop, drop_of_length-le, replicate}
+use lib.Seq.{drop-cons, take_at, drop_at, drop-drop, set_split}
 use borrow.Rule.Slice.PartMut.{put_mid}
 use Rattle.bits.specs.Overwrite.{over, Wrote}
 
@@ -44,6 +44,14 @@ unfolding over
 over_whole l vs h =
     let e : drop (0 + length vs) l ≡ [] = drop_of_length-le l {i = 0 + length vs} (omega arith) in
     rw e (append-nil vs)
+
+-- the items of a list, written one by one: one more of them, and none left
+module _ {A : Type 0} (l : List A) (p i : ℕ) (t : List A) where
+  pub over_next : {v : A} (z : A) {q : ℕ} → v ≡ get_or t i z → q ≡ p + 1 → i < length t → p < length l → over (set l p v) q (drop (i + 1) t) ≡ over l p (drop i t)
+  over_next z e f h k = rw (e, f, drop-cons t i z h, over_set l p (get_or t i z) k, add-one i) (over_over l p (get_or t i z ∷ []) (drop (suc i) t) (omega arith))
+
+  pub over_end : length t ≤ i → over l p (drop i t) ≡ l
+  over_end h = rw (drop_of_length-le t h) (over_none l p)
 
 -- the same value so many times, written one by one: one time more, and none left
 pub fill_step : {A : Type 0} (l : List A) (k n i : ℕ) (v : A) → k + n ≤ length l → i < n →

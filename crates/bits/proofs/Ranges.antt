@@ -7,6 +7,8 @@ use mathlib.Core.List.{List, [], ◌∷◌}
 use native.Mathlib.Numerals.{add-one}
 use native.Mathlib.Omega.{arith}
 use lib.Dec.{leb}
+use Rattle.std.specs.Ordering.{ord_max, nat_cmp}
+use Rattle.std.proofs.lemmas.Bool.Decides.{nat_tests}
 use lib.ListN.{length, get_or, drop, set, replicate}
 use lib.Seq.{drop-cons, drop-length}
 use borrow.Author.Tests.{leb-true, le-leb}
@@ -18,6 +20,10 @@ use Rattle.std.specs.List.{All}
 pub at_most_step : (n : ℕ) (a : List ℕ) (i : ℕ) → i < length a → all_at_most n (drop i a) ≡ (leb (get_or a i 0) n && all_at_most n (drop (i + 1) a))
 unfolding all_at_most
 at_most_step n a i h = rw (add-one, drop-cons a i 0)
+
+-- the greater of two is at most n where both are
+pub at_most_max : (n x y : ℕ) → leb (ord_max nat_cmp x y) n ≡ (leb x n && leb y n)
+at_most_max n x y = grind (arith, nat_tests)
 
 pub at_most_end : (n : ℕ) (a : List ℕ) (i : ℕ) → length a ≤ i → i ≤ length a → all_at_most n (drop i a) ≡ true
 unfolding all_at_most

@@ -8,15 +8,15 @@ pub mod word;
 ghost use Rattle.std.specs.Prelude.{◌≡◌};
 ghost use Rattle.bits.specs.Ranges.{all_at_most};
 
-// Whether every word of `a` is at most `most`. It looks at every word, so that it is compiled to wide steps.
+// Whether every word of `a` is at most `most`, which the greatest tells. It looks at every word, so that it is compiled to wide steps.
 pub fn words_at_most(a: &[u32], most: u32) -> bool
     ensures { result ≡ all_at_most most a.now }
 {
-    let mut fit = true;
+    let mut greatest = 0;
     for word in a {
-        fit = fit & (*word <= most);
+        greatest = greatest.max(*word);
     }
-    fit
+    greatest <= most
 }
 
 // True of every slice, by its type: no word is over 32 bits. With it, a check of a whole machine states what the types give, which is known of

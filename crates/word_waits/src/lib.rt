@@ -39,16 +39,17 @@ pub fn matrix_owns(c: Control, file: usize) -> bool
     owns::<0, 1>(c, file)
 }
 
-// The lowest stall condition that is named and holds now. Internal: the control part is in range.
+// The lowest stall condition that is named and holds now. All four are asked, by `&`: a jump for each costs a STALLWAIT a quarter more. Internal:
+// the control part is in range.
 #[tactic(auto, unfolding(word_rules::specs::Waits::stall_held))]
 fn stall_held(c: Control, k: u32) -> Option<u8>
     requires { control_formed c ≡ true }
     ensures { result ≡ stall_held c k }
 {
-    let c5 = word::flag::<5>(k) && !unpackers_own(c, 0);
-    let c6 = word::flag::<6>(k) && !unpackers_own(c, 1);
-    let c7 = word::flag::<7>(k) && !matrix_owns(c, 0);
-    let c8 = word::flag::<8>(k) && !matrix_owns(c, 1);
+    let c5 = word::flag::<5>(k) & !unpackers_own(c, 0);
+    let c6 = word::flag::<6>(k) & !unpackers_own(c, 1);
+    let c7 = word::flag::<7>(k) & !matrix_owns(c, 0);
+    let c8 = word::flag::<8>(k) & !matrix_owns(c, 1);
     c5.then_some(5)
         .or(c6.then_some(6))
         .or(c7.then_some(7))

@@ -1,8 +1,10 @@
-use mathlib.Core.Path.{refl}
+use mathlib.Core.Path.{refl, sym, ◌∙◌}
 use native.Mathlib.Omega.{arith}
-use Rattle.std.proofs.Common.{rules}
-use Rattle.bits.proofs.Overwrite.{put_mid-over}
+use Rattle.bits.proofs.Overwrite.{over_next, over_end}
 use Rattle.bits.proofs.put.put_all.Goals as goal
 
+pub loop-i-preserved : goal.loop-i-preserved
+loop-i-preserved g c = over_next _ _ _ _ _ c.index-items-i.is (omega arith) c.loop-i-test.true (omega arith) ∙ c.loop-i.invariant
+
 pub returns : goal.returns
-returns g c = record { placed = refl; list = put_mid-over _ _ _ _ _ (search rules) (omega arith) }
+returns g c = record { placed = refl; list = sym (over_end _ _ _ _ c.loop-i-test.false) ∙ c.loop-i.invariant }
