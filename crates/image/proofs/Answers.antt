@@ -19,7 +19,7 @@ use Rattle.format.specs.Format.{accepts}
 use Rattle.image_layout.specs.Image.{image, image_size}
 use Rattle.image_layout.specs.Sound.{provided_sound}
 use Rattle.image_layout.proofs.SoundLaws.{sound_test}
-use Rattle.image.specs.Calls.{save_call, save_check, save_of, load_call, load_check, load_of}
+use Rattle.image.specs.Calls.{save_call, save_check, save_of, parts_call, load_check, load_of}
 
 -- ---- save
 module _ (m : Machine) (out : List ℕ) where
@@ -50,15 +50,15 @@ module _ (m : Machine) (out : List ℕ) where
 
 -- ---- load
 module _ (bs : List ℕ) (m : Machine) where
-  pub load_unsized : sized m ≡ false → load_call (Err BadLength) m ≡ load_of bs m
+  pub load_unsized : sized m ≡ false → parts_call (Err BadLength) m ≡ load_of bs m
   unfolding load_of load_check
   load_unsized s = rw s
 
-  pub load_bad : sized m ≡ true → accepts image bs ≡ false → {g : ℕ} → g ≡ image.good bs → load_call (Err (BadImage g)) m ≡ load_of bs m
+  pub load_bad : sized m ≡ true → accepts image bs ≡ false → {g : ℕ} → g ≡ image.good bs → parts_call (Err (BadImage g)) m ≡ load_of bs m
   unfolding load_of load_check
   load_bad s a e = rw (s, a, e)
 
-  pub load_taken : sized m ≡ true → accepts image bs ≡ true → {k : Machine} (c : Control) → k ≡ image.get bs → load_call (Ok c) k ≡ load_of bs m
+  pub load_taken : sized m ≡ true → accepts image bs ≡ true → {k : Machine} (c : Control) → k ≡ image.get bs → parts_call (Ok c) k ≡ load_of bs m
   unfolding load_of load_check
   load_taken s a c g = rw (s, a, g)
 

@@ -13,15 +13,19 @@ use Rattle.image_layout.specs.Sound.{provided_sound}
 abbrev pub save_call : Result (Unit {0}) Refusal → List ℕ → Call (List ℕ)
 save_call a o = call (told a) o
 
--- the control part that `load` leaves: the image's, or the one handed in
+-- what `load` answers, and the machine
+abbrev pub load_call : Result (Unit {0}) Refusal → Machine → Call Machine
+load_call a m = call (told a) m
+
+-- the control part that a load leaves: the image's, or the one handed in
 abbrev pub loaded_control : Control → Result Control Refusal → Control
 loaded_control c (Ok k) = k
 loaded_control c (Err r) = c
 
--- what `load` answers, and the machine
-abbrev pub load_call : Result Control Refusal → Machine → Call Machine
-load_call (Ok k) m = call (accepted tt) m
-load_call (Err r) m = call (refusal r) m
+-- what comes of reading an image into the stores, the control part for its answer, and the machine
+abbrev pub parts_call : Result Control Refusal → Machine → Call Machine
+parts_call (Ok k) m = call (accepted tt) m
+parts_call (Err r) m = call (refusal r) m
 
 -- 4, 10, 8
 unfoldable pub save_check : Machine → List ℕ → Told (Unit {0})

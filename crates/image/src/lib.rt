@@ -4,7 +4,7 @@
 ghost use Rattle.std.specs.Prelude.{◌≡◌};
 ghost use Rattle.machine.specs.Lent.{viewed};
 ghost use Rattle.machine.specs.Machine.{machine};
-ghost use Rattle.image.specs.Calls.{save_call, save_of, loaded_control, load_call, load_of};
+ghost use Rattle.image.specs.Calls.{save_call, save_of, loaded_control, load_call, parts_call, load_of};
 ghost use Rattle.image.specs.Promises.{ImageFacts, RoundTrips};
 
 mod whole;
@@ -34,11 +34,10 @@ pub fn save(m: MachineView<'_>, out: &mut [u8]) -> Result<(), Refusal>
     Ok(())
 }
 
-// Loads an image: every field is looked at before anything is written. Refusals 4, 9; the machine may be malformed.
+// An image read into the stores: every field is looked at before anything is written.
 #[tactic(auto, unfolding(crate::specs::Calls::load_of, crate::specs::Calls::load_check, machine::specs::Formed::stores_sized))]
-pub fn load(
+fn load_parts(
     bytes: &[u8],
-    control: Control,
     settings: &mut [u16],
     gprs: &mut [u32],
     config: &mut [u32],
@@ -47,7 +46,7 @@ pub fn load(
     src_a: &mut [u32],
     src_b: &mut [u32],
 ) -> Result<Control, Refusal>
-    ensures { load_call result (machine (loaded_control control result) settings.new gprs.new config.new dest.new marks.new src_a.new src_b.new) ≡ load_of bytes.now (machine control settings.old gprs.old config.old dest.old marks.old src_a.old src_b.old) }
+    ensures { (control : Control) → parts_call result (machine (loaded_control control result) settings.new gprs.new config.new dest.new marks.new src_a.new src_b.new) ≡ load_of bytes.now (machine control settings.old gprs.old config.old dest.old marks.old src_a.old src_b.old) }
 {
     let settings = settings
         .as_mut_array::<SETTINGS>()
@@ -67,6 +66,39 @@ pub fn load(
     match image_scan::scan(bytes, CONFIG_KIND, CONFIG_WORDS) {
         Err(good) => Err(Refusal::BadImage(good)),
         Ok(()) => Ok(whole::read_machine(bytes, settings, gprs, config, dest, marks, src_a, src_b)),
+    }
+}
+
+// What comes of loading, and the control part: the image's, or the one handed in.
+#[derive(Clone, Copy)]
+pub struct Loaded {
+    pub answer: Result<(), Refusal>,
+    pub control: Control,
+}
+
+// Loads an image. Refusals 4, 9; the machine may be malformed.
+pub fn load(
+    bytes: &[u8],
+    control: Control,
+    settings: &mut [u16],
+    gprs: &mut [u32],
+    config: &mut [u32],
+    dest: &mut [u16],
+    marks: &mut [bool],
+    src_a: &mut [u32],
+    src_b: &mut [u32],
+) -> Loaded
+    ensures { load_call result.answer (machine result.control settings.new gprs.new config.new dest.new marks.new src_a.new src_b.new) ≡ load_of bytes.now (machine control settings.old gprs.old config.old dest.old marks.old src_a.old src_b.old) }
+{
+    match load_parts(bytes, settings, gprs, config, dest, marks, src_a, src_b) {
+        Ok(loaded) => Loaded {
+            answer: Ok(()),
+            control: loaded,
+        },
+        Err(r) => Loaded {
+            answer: Err(r),
+            control,
+        },
     }
 }
 

@@ -58,12 +58,10 @@ fn run_load(
     if let Some(b) = old {
         set_byte(out, d.at, b);
     }
-    match loaded {
+    p.control = loaded.control;
+    match loaded.answer {
         Err(r) => write_refused(rt, r, digest_parts(p)),
-        Ok(control) => {
-            p.control = control;
-            write_loaded(rt, p, m, again)
-        }
+        Ok(()) => write_loaded(rt, p, m, again),
     }
 }
 

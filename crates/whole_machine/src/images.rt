@@ -41,8 +41,9 @@ pub fn load_whole(bytes: &[u8], m: &mut WholeMachine) -> Result<(), Refusal>
         src_a,
         src_b,
     } = m;
-    *control = image::load(
+    let loaded = image::load(
         bytes, *control, settings, gprs, config, dest, marks, src_a, src_b,
-    )?;
-    Ok(())
+    );
+    *control = loaded.control;
+    loaded.answer
 }
