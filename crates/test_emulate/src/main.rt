@@ -2,6 +2,8 @@
 // oracle/cases/cases_emulate.py makes them and the output that is expected.
 #![tactic(auto)]
 
+ghost use Rattle.std.specs.Prelude.{◌<◌, IfOk, IfSome};
+
 use format::number::read;
 use program_emulate::EMULATE_READS;
 use program_io::read_full;
@@ -9,7 +11,9 @@ use program_report::LINES_BYTES;
 use std::io;
 
 // The length of the next input, or none where there is no input left.
-fn next_length(rt: &HostRuntime) -> io::Result<Option<usize>> {
+fn next_length(rt: &HostRuntime) -> io::Result<Option<usize>>
+    ensures { IfOk result (λ o. IfSome o (λ n. n < 65536)) }
+{
     let mut head = [0u8; 4];
     if read_full(&mut rt.stdin(), &mut head)? < 4 {
         return Ok(None);
